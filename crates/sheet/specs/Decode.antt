@@ -4,7 +4,7 @@ use mathlib.Core.List.{List, [], _∷_, map}
 use lib.ListN.{getD, take, drop}
 use Rattle.sheet.specs.declared.branch.Branch.{Branch}
 use Rattle.sheet.specs.declared.counts.Counts.{Counts}
-use Rattle.sheet.specs.Encode.{begin}
+use Rattle.sheet.specs.declared.span.Span.{Span}
 use Rattle.sheet.specs.Model.{State, ended, exchange, Sheet}
 
 abbrev pub byte : List ℕ → ℕ → ℕ
@@ -19,11 +19,6 @@ nameCount c = c .roles + c .labels
 
 abbrev pub pieceCount : Counts → ℕ
 pieceCount c = nameCount c + c .states
-
--- where a piece lies
-pub record Span : Type 0 where
-  pub offset : ℕ
-  pub size : ℕ
 
 abbrev pub number : List ℕ → ℕ → ℕ
 number bytes k = byte bytes k * 256 + byte bytes (k + 1)

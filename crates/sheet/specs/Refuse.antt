@@ -10,12 +10,13 @@ use Rattle.std.specs.declared.option.Option.the-variants.{Some, None}
 use Rattle.sheet.specs.declared.branch.Branch.{Branch}
 use Rattle.sheet.specs.declared.counts.Counts.{Counts}
 use Rattle.sheet.specs.declared.fault.ReadFault.{ReadFault}
+use Rattle.sheet.specs.declared.span.Span.{Span}
 use Rattle.sheet.specs.declared.fault.ReadFault.the-variants.{Short, Edition, Count, Pair, Byte, Twice, State}
 use Rattle.sheet.specs.Model.{Name, ended, exchange}
 use Rattle.sheet.specs.Model as model
 use Rattle.sheet.specs.Names.{same}
 use Rattle.sheet.specs.Encode.{begin}
-use Rattle.sheet.specs.Decode.{byte, counts, nameCount, pieceCount, Span, table, roleSpans, labelSpans, stateSpans, cut, stateAt}
+use Rattle.sheet.specs.Decode.{byte, counts, nameCount, pieceCount, table, roleSpans, labelSpans, stateSpans, cut, stateAt}
 
 -- the fault, unless the test holds
 abbrev pub unless : Bool → ReadFault → Option ReadFault

@@ -5,3 +5,4 @@ pub mod branch;
 pub mod counts;
 pub mod fault;
 pub mod law;
+pub mod span;
