@@ -1,0 +1,12 @@
+pub mod Same
+pub mod Checks
+pub mod Bodies
+pub mod Spans
+pub mod Sizes
+pub mod NameRules
+pub mod StateRules
+pub mod Pieces
+pub mod Whole
+pub mod Clean
+pub mod Sound
+pub mod Complete

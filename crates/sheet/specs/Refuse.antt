@@ -53,9 +53,13 @@ nameSize n = within 1 12 n
 abbrev pub stateSize : ℕ → Bool
 stateSize n = eqb n 0 || (within 7 42 n && eqb (n % 5) 2)
 
+-- the lengths that a piece may have: of a name, or of a state
+abbrev pub sized : Bool → ℕ → Bool
+sized named n = cond named (nameSize n) (stateSize n)
+
 -- a pair whose piece begins at `at` and ends by `limit`
 unfoldable pub placed : ℕ → Bool → ℕ → Span → Bool
-placed limit named at s = eqb (s .offset) at && (cond named (nameSize (s .size)) (stateSize (s .size)) && leb (at + s .size) limit)
+placed limit named at s = eqb (s .offset) at && (sized named (s .size) && leb (at + s .size) limit)
 
 -- stop 4: pair i and those after it, the first of which begins at `at`; the pairs below `names` are names'
 abbrev pub pairFault : ℕ → ℕ → ℕ → ℕ → List Span → Option ReadFault
