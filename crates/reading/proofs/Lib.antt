@@ -1,0 +1,5 @@
+mod Bodies
+mod Checks
+mod NameSteps
+mod Pieces
+mod Spelling
