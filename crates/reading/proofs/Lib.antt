@@ -1,5 +1,6 @@
 mod Bodies
 mod Checks
+mod Handing
 mod NameSteps
 mod Pieces
 mod Spelling

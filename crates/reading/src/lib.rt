@@ -3,6 +3,7 @@
 mod header;
 pub mod names;
 mod pairs;
+pub mod piece;
 pub mod read;
 pub mod read_sheet;
 pub mod states;
