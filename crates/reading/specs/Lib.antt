@@ -1,4 +1,5 @@
 pub mod Faults
+pub mod Finding
 pub mod Places
 pub mod Reads
 pub mod Handing
