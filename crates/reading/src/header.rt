@@ -30,6 +30,20 @@ pub(crate) fn piece_count(counts: Counts) -> usize
     name_count(counts) + counts.states as usize
 }
 
+// The counts that a header announces.
+pub(crate) fn counts_in(bytes: &[u8]) -> Counts
+    requires { ⌜ 5 ≤ length (now bytes) ⌝ }
+    ensures { λ r. ⌜ r ≡ countsIn (now (bytes .entry)) ⌝ }
+{
+    Counts {
+        roles: bytes[1],
+        labels: bytes[2],
+        states: bytes[3],
+        rows: bytes[4],
+    }
+}
+
+// Stop 3.
 fn check_counts(counts: Counts) -> Result<(), ReadFault>
     ensures { λ r. ⌜ faultOf r ≡ countFault counts ⌝ }
 {
@@ -53,18 +67,13 @@ pub(crate) fn read_header(bytes: &[u8]) -> Result<Counts, ReadFault>
     ensures judged { λ r. ⌜ faultOf r ≡ headerFault (now (bytes .entry)) ⌝ }
     ensures value { λ r. ⌜ made r (λ c. (c ≡ countsIn (now (bytes .entry))) × (begin (pieceCount c) ≤ length (now (bytes .entry)))) ⌝ }
 {
-    let [edition, roles, labels, states, rows, ..] = bytes else {
+    if bytes.len() < 5 {
         return Err(ReadFault::Short { given: bytes.len() });
-    };
-    if *edition != 1 {
+    }
+    if bytes[0] != 1 {
         return Err(ReadFault::Edition);
     }
-    let counts = Counts {
-        roles: *roles,
-        labels: *labels,
-        states: *states,
-        rows: *rows,
-    };
+    let counts = counts_in(bytes);
     check_counts(counts)?;
     if bytes.len() < first_offset(counts) {
         return Err(ReadFault::Short { given: bytes.len() });

@@ -9,6 +9,7 @@ ghost use Rattle.sheet.specs.Refuse.{fault};
 ghost use Rattle.std.specs.declared.option.Option.the-variants.{None};
 ghost use Rattle.reading.specs.Reads.{bytesOf, sheetOf};
 ghost use Rattle.reading.specs.Handing.{countsOf, firstPair, pieceCountOf, seen, handed, OwnPart};
+use crate::header::counts_in;
 use crate::pairs::piece_at;
 use crate::pairs::span_at;
 use crate::read_sheet::ReadSheet;
@@ -68,13 +69,7 @@ impl ReadSheet {
         ensures value { λ r. ⌜ r ≡ countsOf (sheetOf (now (self .entry))) ⌝ }
         ensures read { λ r. ⌜ r ≡ countsIn (bytesOf (now (self .entry))) ⌝ }
     {
-        let bytes = self.bytes();
-        Counts {
-            roles: bytes[1],
-            labels: bytes[2],
-            states: bytes[3],
-            rows: bytes[4],
-        }
+        counts_in(self.bytes())
     }
 
     /// The piece of that kind and number, or none where the kind has no such number.

@@ -1,5 +1,4 @@
-use borrow.Author.Needs.{needs}
-use mathlib.Core.Path.{_≡_, refl, sym, ap, _∙_}
+use mathlib.Core.Path.{_≡_, ap, _∙_}
 use native.Mathlib.Omega.{arith}
 use Rattle.sheet.proofs.Clean.{pairs-there}
 use Rattle.sheet.specs.Decode.{counts, model}
@@ -7,23 +6,13 @@ use Rattle.reading.specs.Handing.{countsOf}
 use Rattle.reading.proofs.Handing.{counts-are}
 use Rattle.reading.proofs.read_sheet.ReadSheet.counts.Needs as need
 
-pub index-bytes-1 : need.index-bytes-1
-index-bytes-1 c = omega (arith, pairs-there (c .bytes-bytes .result .now) (c .bytes-bytes .ensures .sound))
-
-pub index-bytes-2 : need.index-bytes-2
-index-bytes-2 c = omega (arith, pairs-there (c .bytes-bytes .result .now) (c .bytes-bytes .ensures .sound))
-
-pub index-bytes-3 : need.index-bytes-3
-index-bytes-3 c = omega (arith, pairs-there (c .bytes-bytes .result .now) (c .bytes-bytes .ensures .sound))
-
-pub index-bytes-4 : need.index-bytes-4
-index-bytes-4 c = omega (arith, pairs-there (c .bytes-bytes .result .now) (c .bytes-bytes .ensures .sound))
+pub counts-in-requires : need.counts-in-requires
+counts-in-requires c κs = omega (arith, pairs-there (c .bytes .result .now) (c .bytes .ensures .sound))
 
 pub returns : need.returns
 returns c =
-    let bytes = c .bytes-bytes .result .now in
-    let is = c .bytes-bytes .ensures .value in
+    let read = c .counts-in .ensures ∙ ap counts (c .bytes .ensures .value) in
     record {
-      value = counts-are bytes (c .bytes-bytes .ensures .sound) ∙ ap (λ b. countsOf (model b)) is;
-      read = ap counts is;
+      value = c .counts-in .ensures ∙ counts-are (c .bytes .result .now) (c .bytes .ensures .sound) ∙ ap (λ b. countsOf (model b)) (c .bytes .ensures .value);
+      read = read;
     }
