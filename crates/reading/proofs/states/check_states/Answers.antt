@@ -13,6 +13,7 @@ use Rattle.sheet.specs.Decode.{nameCount, pieceCount, table, stateOf, stateAt}
 use Rattle.sheet.specs.Refuse.{stateFault, statesFault}
 use Rattle.sheet.proofs.Spans.{length-table}
 use Rattle.reading.specs.Places.{nowhere}
+use Rattle.reading.proofs.Pieces.{judged-at}
 use Rattle.reading.proofs.states.check_states.Needs as need
 
 module _ (counts : Counts) (bytes : List ℕ) (ss : List Span) (i : ℕ) (h : i < length ss) where
@@ -30,8 +31,7 @@ returns-in-Break-check-state c =
     let k = c .args .counts in
     let within : i < length ss = omega (arith, length-table bytes, c .piece-count-pair-end .ensures, ap pieceCount (c .pre .1)) in
     let judged : stateFault k (getD ss i nowhere .offset) (stateAt bytes (getD ss i nowhere)) ≡ Some (c .in-Break-check-state .field-0 .0) =
-    sym (ap (λ s. stateFault k (s .offset) (stateOf (c .piece-at .result .now))) (c .span-at .ensures .value) ∙ ap (λ p. stateFault k (getD ss i nowhere .offset) (stateOf p)) (c .piece-at .ensures .value))
-    ∙ sym (c .in-Break-check-state .ensures tt) in
+    judged-at (λ o p. stateFault k o (stateOf p)) bytes ss i _ _ _ (c .span-at .ensures .value) (c .piece-at .ensures .value) (c .in-Break-check-state .ensures tt) in
     let p = err-from-errBy (c .from-residual .result) (c .from-residual .ensures .1) in
     rw (p .1, p .2) (sym (here k bytes ss i within _ judged) ∙ c .loop-pair .inv)
 
@@ -43,8 +43,7 @@ loop-pair-again c =
     let k = c .args .counts in
     let within : i < length ss = omega (arith, length-table bytes, c .piece-count-pair-end .ensures, ap pieceCount (c .pre .1)) in
     let judged : stateFault k (getD ss i nowhere .offset) (stateAt bytes (getD ss i nowhere)) ≡ None =
-    sym (ap (λ s. stateFault k (s .offset) (stateOf (c .piece-at .result .now))) (c .span-at .ensures .value) ∙ ap (λ p. stateFault k (getD ss i nowhere .offset) (stateOf p)) (c .piece-at .ensures .value))
-    ∙ sym (c .in-Continue-check-state .ensures tt) in
+    judged-at (λ o p. stateFault k o (stateOf p)) bytes ss i _ _ _ (c .span-at .ensures .value) (c .piece-at .ensures .value) (c .in-Continue-check-state .ensures tt) in
     sym (more k bytes ss i within judged) ∙ c .loop-pair .inv
 
 pub loop-pair-holds : need.loop-pair-holds
