@@ -1,0 +1,5 @@
+mod Bits
+mod Spreading
+mod Same
+mod Passing
+mod Viewing
