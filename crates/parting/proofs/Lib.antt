@@ -3,3 +3,6 @@ mod Spreading
 mod Same
 mod Passing
 mod Viewing
+mod Collecting
+mod Tallying
+mod Blanks

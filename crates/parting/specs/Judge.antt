@@ -1,6 +1,6 @@
 -- Computed: whether a set is sound, point by point. That each test decides its point is a law.
 use Prim.Native.Nat.{ℕ, zero, suc}
-use mathlib.Core.Bool.{Bool, true, false, cond, _&&_, _||_, not}
+use mathlib.Core.Bool.{Bool, Bool·beq, true, false, cond, _&&_, _||_, not}
 use mathlib.Core.List.{List, [], _∷_}
 use lib.Dec.{eqb}
 use Rattle.std.specs.declared.option.Option.{Option}
@@ -26,21 +26,17 @@ abbrev pub everyBelow : (ℕ → Bool) → ℕ → Bool
 everyBelow test zero = true
 everyBelow test (suc n) = test n && everyBelow test n
 
-abbrev pub sameBool : Bool → Bool → Bool
-sameBool true b = b
-sameBool false b = not b
-
 abbrev pub sends : Way → Bool
 sends Sends = true
 sends Receives = false
 
 unfoldable pub sameSide : Act → Act → Bool
-sameSide a b = sameBool (sends (a .way)) (sends (b .way)) && eqb (a .partner) (b .partner)
+sameSide a b = Bool·beq (sends (a .way)) (sends (b .way)) && eqb (a .partner) (b .partner)
 
 -- first point
 abbrev pub oneSide : List Act → Bool
 oneSide [] = true
-oneSide (a ∷ as′) = every (sameSide a) as′
+oneSide (a ∷ as′) = every (sameSide a) (a ∷ as′)
 
 -- the first act with that label
 abbrev pub firstOf : ℕ → List Act → Option Act
@@ -48,7 +44,7 @@ firstOf label [] = None
 firstOf label (a ∷ as′) = cond (eqb (a .label) label) (Some a) (firstOf label as′)
 
 unfoldable pub sameTiming : Act → Act → Bool
-sameTiming a b = eqb (a .row) (b .row) && sameBool (a .reset) (b .reset)
+sameTiming a b = eqb (a .row) (b .row) && Bool·beq (a .reset) (b .reset)
 
 abbrev pub agrees : Option Act → Act → Bool
 agrees None a = true

@@ -5,3 +5,4 @@ pub mod Judge
 pub mod Family
 pub mod Stop
 pub mod Bounds
+pub mod Lists

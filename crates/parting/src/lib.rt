@@ -5,6 +5,8 @@ mod act;
 mod closure;
 mod edge;
 pub mod fault;
+mod judging;
 mod masks;
 mod point;
 mod transition;
+mod view;
