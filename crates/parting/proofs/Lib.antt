@@ -6,3 +6,4 @@ mod Viewing
 mod Collecting
 mod Tallying
 mod Blanks
+mod Entering

@@ -32,9 +32,13 @@ viewOf m ps = record { acts = acts m ps; silent = silentEdges m ps; leading = le
 unfoldable pub startSet : View → ℕ
 startSet v = spread (v .silent) (add 0 0)
 
+-- where the acts with that label lead
+abbrev pub ends : ℕ → List Act → ℕ
+ends label as′ = gather (λ a. eqb (a .label) label) (λ a. a .next) 0 as′
+
 -- the successor of a set under a label
 unfoldable pub successor : View → ℕ → ℕ → ℕ
-successor v mask label = spread (v .silent) (gather (λ a. eqb (a .label) label) (λ a. a .next) 0 (inSet mask (v .acts)))
+successor v mask label = spread (v .silent) (ends label (inSet mask (v .acts)))
 
 -- the role has an act with that label in the set
 unfoldable pub hasLabel : View → ℕ → ℕ → Bool
@@ -44,6 +48,11 @@ hasLabel v mask label = isSome (firstOf label (inSet mask (v .acts)))
 abbrev pub position : ℕ → List ℕ → ℕ
 position mask [] = 0
 position mask (found ∷ more) = cond (eqb found mask) 0 (suc (position mask more))
+
+-- what was found, or nothing where there was no room
+abbrev pub outcome : Bool → List ℕ → Option (List ℕ)
+outcome true found = Some found
+outcome false found = None
 
 -- one more set at the end, unless it was found before; there may be 32
 unfoldable pub entered : List ℕ → ℕ → Option (List ℕ)

@@ -6,3 +6,4 @@ pub mod Family
 pub mod Stop
 pub mod Bounds
 pub mod Lists
+pub mod Sets

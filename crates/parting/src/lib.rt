@@ -4,9 +4,12 @@
 mod act;
 mod closure;
 mod edge;
+mod family;
 pub mod fault;
+mod found;
 mod judging;
 mod masks;
 mod point;
+mod successor;
 mod transition;
 mod view;
