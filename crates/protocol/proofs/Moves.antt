@@ -9,7 +9,7 @@ use Rattle.protocol.specs.Places.{Place, Has}
 use Rattle.protocol.specs.Actions.{Way, sends, receives, Action, turn}
 use Rattle.protocol.specs.Paths.{PathFrom, endOf, share}
 use Rattle.protocol.specs.Sets.{Silent, here, on, Step, Acts, Start, Led, Successor, After, Followed}
-use Rattle.protocol.specs.Sound.{OneSide, Sound}
+use Rattle.protocol.specs.Sound.{OneSide, SameOffer, NoClash}
 use Rattle.protocol.specs.Accepted.{HasPart}
 use Rattle.protocol.specs.Projection.{Move, move, moves, labelOf, labels, Does, Played, BeginsShare, LeadsTo, OneSided, Projects, LabelsSuffice, LabelDetermines, Part-is-projection, Labels-suffice, Parts-project}
 use Rattle.protocol.proofs.Turns.{cons-head, cons-tail, nil-cons, Asked, asked, unasked, ask, same-action}
@@ -153,21 +153,23 @@ suffice sh m one = record {
   one = one-played sh m (Start sh m) one;
 }
 
--- In a sound set of a valid sheet the label determines the whole action.
-pub same-in-set : (sh : Sheet) → Valid sh → (m : ℕ) (X : ℕ → Type 0) → Sound sh m X → (s t : ℕ) → X s → X t → (a b : Action) → Acts sh m s a → Acts sh m t b → a .label ≡ b .label → a ≡ b
-same-in-set sh valid m X ok s t x y a b i j l =
-    let w = ok .one-side s t x y a b i j in
+-- In a set of a valid sheet with the first three points, the label determines the whole action.
+pub same-in-set : (sh : Sheet) → Valid sh → (m : ℕ) (X : ℕ → Type 0) → OneSide sh m X → SameOffer sh m X → NoClash sh m X → (s t : ℕ) → X s → X t → (a b : Action) → Acts sh m s a → Acts sh m t b → a .label ≡ b .label → a ≡ b
+same-in-set sh valid m X one offer clash s t x y a b i j l =
+    let w = one s t x y a b i j in
     same-action a b (w .0) (w .1) l (timing (a .way) refl)
   where
     timing : (w : Way) → a .way ≡ w → a .timing ≡ b .timing
     timing sends e =
-        let c = ok .same-offer s t x y a b i j e in
+        let c = offer s t x y a b i j e in
         sym (c .3) ∙ ap (λ (z : Action). z .timing) (same-step sh valid m t (c .0) b (c .1) j (c .2 ∙ l))
-    timing receives e = ok .no-clash s t x y a b i j e l
+    timing receives e = clash s t x y a b i j e l
 
 pub part-one-sided : (sh : Sheet) (m : ℕ) → HasPart sh m → OneSided sh m
 part-one-sided sh m part ls f = part .sound ls f .one-side
 
 pub parts-project : Parts-project
-parts-project sh valid m part =
-    (projects sh m (part-one-sided sh m part), suffice sh m (part-one-sided sh m part), λ ls f. same-in-set sh valid m (After sh m (Start sh m) ls) (part .sound ls f))
+parts-project sh valid m part = (projects sh m (part-one-sided sh m part), suffice sh m (part-one-sided sh m part), determined)
+  where
+    determined : LabelDetermines sh m
+    determined ls f = let ok = part .sound ls f in same-in-set sh valid m (After sh m (Start sh m) ls) (ok .one-side) (ok .same-offer) (ok .no-clash)

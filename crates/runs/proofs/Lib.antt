@@ -1,0 +1,5 @@
+pub mod Own
+pub mod Order
+pub mod Clocks
+pub mod Judging
+pub mod Rebuild
