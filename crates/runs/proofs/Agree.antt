@@ -49,7 +49,7 @@ record Standing (sh : Sheet) (book : Book) (o m : ℕ) (es : List Event) (c : �
   accepts : Accepts sh book m (Start sh m) o es
   since : end-clock sh book m (Start sh m) o es accepts ≡ c
 
-direction-small : (e : Event) (w : Way) → e .direction ≡ directionOf w → e .direction ≤ 1
+pub direction-small : (e : Event) (w : Way) → e .direction ≡ directionOf w → e .direction ≤ 1
 direction-small e sends q = omega arith
 direction-small e receives q = omega arith
 

@@ -52,10 +52,10 @@ pub data Touches (w : Way) (e : Event) (a b : ℕ) : Type 0 where
   untouched : ((es : List Event) → sent a b (es ++ (e ∷ [])) ≡ sent a b es) → ((es : List Event) → taken a b (es ++ (e ∷ [])) ≡ taken a b es) →
       ((channel : ℕ → ℕ → List Message) → channelAfter channel e w a b ≡ channel a b) → Touches w e a b
 
-after-longer : (channel : ℕ → ℕ → List Message) (e : Event) (a b : ℕ) → a ≡ e .role → b ≡ e .partner → channelAfter channel e sends a b ≡ channel a b ++ (message e ∷ [])
+pub after-longer : (channel : ℕ → ℕ → List Message) (e : Event) (a b : ℕ) → a ≡ e .role → b ≡ e .partner → channelAfter channel e sends a b ≡ channel a b ++ (message e ∷ [])
 after-longer channel e a b x y = cond-true (eqb a (e .role) && eqb b (e .partner)) (channel a b ++ (message e ∷ [])) (channel a b) (and-from (eqb a (e .role)) (eqb b (e .partner)) (eq-eqb a (e .role) x) (eq-eqb b (e .partner) y))
 
-after-shorter : (channel : ℕ → ℕ → List Message) (e : Event) (a b : ℕ) → a ≡ e .partner → b ≡ e .role → channelAfter channel e receives a b ≡ drop 1 (channel a b)
+pub after-shorter : (channel : ℕ → ℕ → List Message) (e : Event) (a b : ℕ) → a ≡ e .partner → b ≡ e .role → channelAfter channel e receives a b ≡ drop 1 (channel a b)
 after-shorter channel e a b x y = cond-true (eqb a (e .partner) && eqb b (e .role)) (drop 1 (channel a b)) (channel a b) (and-from (eqb a (e .partner)) (eqb b (e .role)) (eq-eqb a (e .partner) x) (eq-eqb b (e .role) y))
 
 pub touches : (w : Way) (e : Event) → e .direction ≡ directionOf w → (a b : ℕ) → Touches w e a b

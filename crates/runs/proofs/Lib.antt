@@ -6,3 +6,7 @@ pub mod Rebuild
 pub mod Growth
 pub mod Agree
 pub mod Foresee
+pub mod Fronts
+pub mod Channelled
+pub mod Shares
+pub mod Ending

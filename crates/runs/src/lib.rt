@@ -2,4 +2,5 @@
 //! code runs here.
 
 pub mod book;
+pub mod events;
 pub mod monitor;
