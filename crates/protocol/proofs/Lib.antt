@@ -1,0 +1,5 @@
+pub mod Turns
+pub mod Known
+pub mod Closures
+pub mod Walks
+pub mod Moves

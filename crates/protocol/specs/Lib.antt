@@ -4,3 +4,4 @@ pub mod Paths
 pub mod Sets
 pub mod Sound
 pub mod Accepted
+pub mod Projection

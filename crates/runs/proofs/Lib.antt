@@ -1,0 +1,12 @@
+pub mod Own
+pub mod Order
+pub mod Clocks
+pub mod Judging
+pub mod Rebuild
+pub mod Growth
+pub mod Agree
+pub mod Foresee
+pub mod Fronts
+pub mod Channelled
+pub mod Shares
+pub mod Ending

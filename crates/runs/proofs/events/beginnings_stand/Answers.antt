@@ -1,0 +1,6 @@
+-- Cites the beginnings of runs, at the book's rows.
+use Rattle.runs.proofs.Fronts.{beginnings}
+use Rattle.runs.proofs.events.beginnings_stand.Needs as need
+
+pub returns : need.returns
+returns g c = λ b. beginnings (g .B·Rows .admits b)

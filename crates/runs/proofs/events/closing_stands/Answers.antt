@@ -1,0 +1,6 @@
+-- Cites closing, at the book's rows.
+use Rattle.runs.proofs.Ending.{closing}
+use Rattle.runs.proofs.events.closing_stands.Needs as need
+
+pub returns : need.returns
+returns g c = λ b. closing (g .B·Rows .admits b)

@@ -1,0 +1,38 @@
+//! The laws on what is read off the events of a run.
+
+use crate::book::Rows;
+ghost use Rattle.protocol.specs.Accepted.{Accepted};
+ghost use Rattle.runs.specs.Steady.{AllSteady};
+ghost use Rattle.runs.specs.Laws.{Beginnings, Channels-read, Sets-read, Closing};
+
+/// No events are a run, and every beginning of a run is a run.
+/// Answers the edition that the law is about.
+pub fn beginnings_stand<B: Rows>() -> u8
+    ensures { λ _. ⌜ ((b : B) → Beginnings (B·Rows .admits b)) ⌝ }
+{
+    1
+}
+
+/// What waits in each channel of a run, and for how long it has been under way, is a function of the
+/// events: at most depth messages wait, a sending puts its message last, a taking removes the oldest.
+pub fn channels_stand<B: Rows>() -> u8
+    ensures { λ _. ⌜ ((b : B) → Channels-read (B·Rows .admits b)) ⌝ }
+{
+    1
+}
+
+/// After a run, a role's set is exactly the states to which a path leads whose share for the role is its
+/// events.
+pub fn sets_stand<B: Rows>() -> u8
+    ensures accepted { λ _. ⌜ ((b : B) → Sets-read Accepted (B·Rows .admits b)) ⌝ }
+    ensures steady { λ _. ⌜ ((b : B) → Sets-read AllSteady (B·Rows .admits b)) ⌝ }
+{
+    1
+}
+
+/// Every role is finished exactly when some path to an end has every role's events as its whole share.
+pub fn closing_stands<B: Rows>() -> u8
+    ensures { λ _. ⌜ ((b : B) → Closing (B·Rows .admits b)) ⌝ }
+{
+    1
+}

@@ -1,0 +1,35 @@
+//! The laws that tie a monitor to the runs of a sheet.
+
+use crate::book::Rows;
+ghost use Rattle.protocol.specs.Accepted.{Accepted};
+ghost use Rattle.runs.specs.Steady.{AllSteady};
+ghost use Rattle.runs.specs.Laws.{Agreement, Foresight, Keeping, Accepted-is-steady};
+
+/// Agreement. After any events that passed, the next event passes exactly when with it they are a run of
+/// the sheet: for every valid and accepted sheet, every book, opening tick and depth. It is so too where
+/// the fourth point of soundness holds only of the sets in which the role sends.
+/// Answers the edition that the law is about.
+pub fn agreement_stands<B: Rows>() -> u8
+    ensures accepted { λ _. ⌜ ((b : B) → Agreement Accepted (B·Rows .admits b)) ⌝ }
+    ensures steady { λ _. ⌜ ((b : B) → Agreement AllSteady (B·Rows .admits b)) ⌝ }
+    ensures wider { λ _. ⌜ Accepted-is-steady ⌝ }
+{
+    1
+}
+
+/// Foresight. The least tick at which some event of a role passes is the least tick at which some event
+/// of that role makes a run, and there is none exactly when there is none.
+pub fn foresight_stands<B: Rows>() -> u8
+    ensures accepted { λ _. ⌜ ((b : B) → Foresight Accepted (B·Rows .admits b)) ⌝ }
+    ensures steady { λ _. ⌜ ((b : B) → Foresight AllSteady (B·Rows .admits b)) ⌝ }
+{
+    1
+}
+
+/// What a monitor keeps is read off the events that passed, one step at a time.
+pub fn keeping_stands<B: Rows>() -> u8
+    ensures accepted { λ _. ⌜ ((b : B) → Keeping Accepted (B·Rows .admits b)) ⌝ }
+    ensures steady { λ _. ⌜ ((b : B) → Keeping AllSteady (B·Rows .admits b)) ⌝ }
+{
+    1
+}
