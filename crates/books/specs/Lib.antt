@@ -1,0 +1,9 @@
+pub mod Sets
+pub mod Nexts
+pub mod Margins
+pub mod Bytes
+pub mod Rows
+pub mod Windows
+pub mod Slots
+pub mod Faults
+pub mod Tables

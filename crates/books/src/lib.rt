@@ -1,0 +1,10 @@
+//! Time books: for each row a set of clock values, and two questions about it.
+
+pub mod fault;
+pub mod margin;
+mod number;
+mod rows;
+mod slot;
+pub mod time_book;
+mod window;
+pub mod windows;
