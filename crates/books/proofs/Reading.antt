@@ -42,7 +42,7 @@ module _ (size : ℕ) (rule : List ℕ → Bool) (bytes : List ℕ) (n i : ℕ) 
 
 -- bytes that are a whole number of rows, at most 64, have the fault of their first bad row
 pub fault-of-rows : (size : ℕ) (rule : List ℕ → Bool) (bytes : List ℕ) (o : Option BookFault) → length bytes % size ≡ 0 → length bytes / size ≤ 64
-  → badFrom size rule bytes 0 (length bytes / size) ≡ o → o ≡ faultOf size rule bytes
+    → badFrom size rule bytes 0 (length bytes / size) ≡ o → o ≡ faultOf size rule bytes
 fault-of-rows size rule bytes o w f e =
     sym e ∙ sym (cond-true _ _ _ (and-from _ _ (eq-eqb _ 0 w) (le-leb _ 64 f)))
 
@@ -53,8 +53,8 @@ row-long size bytes row h =
 
 -- what the decoder of a row of the bytes says of the rule
 pub rule-at : (size sized : ℕ) (rule : List ℕ → Bool) (bytes : List ℕ) (row : ℕ) (told : Bool) → size ≡ sized → row < length bytes / size
-  → (length (take (row * size + size - row * size) (drop (row * size) bytes)) ≡ sized → told ≡ rule (take (row * size + size - row * size) (drop (row * size) bytes)))
-  → rule (rowAt size bytes row) ≡ told
+    → (length (take (row * size + size - row * size) (drop (row * size) bytes)) ≡ sized → told ≡ rule (take (row * size + size - row * size) (drop (row * size) bytes)))
+    → rule (rowAt size bytes row) ≡ told
 rule-at size sized rule bytes row told e h said =
     let is = row-is size bytes row in
     sym (ap rule is) ∙ sym (said (ap length is ∙ row-long size bytes row h ∙ e))

@@ -5,6 +5,7 @@ pub mod margin;
 mod number;
 mod rows;
 mod slot;
+pub mod slots;
 pub mod time_book;
 mod window;
 pub mod windows;

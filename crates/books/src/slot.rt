@@ -15,7 +15,7 @@ pub(crate) struct Slot {
     period: u32,
     first: u32,
     width: u32,
-    ghost open: { (1 ≤ width) × (first + width ≤ period) },
+    ghost legal: { (1 ≤ width) × (first + width ≤ period) },
 }
 
 impl Slot {

@@ -28,7 +28,11 @@ impl Window {
         ensures { λ r. ⌜ Next (InWindow (self .low) (self .high)) value r ⌝ }
     {
         let first = value.max(self.low);
-        if first <= self.high { Some(first) } else { None }
+        if first <= self.high {
+            Some(first)
+        } else {
+            None
+        }
     }
 }
 

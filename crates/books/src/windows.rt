@@ -25,7 +25,11 @@ impl Windows {
         ensures { λ r. ⌜ Cases r (now (self .entry) .used ≤ row) (λ w. (row < now (self .entry) .used) × (w ≡ getD (now (self .entry) .rows) row unread)) ⌝ }
     {
         let at = row as usize;
-        if at < self.used { Some(self.rows[at]) } else { None }
+        if at < self.used {
+            Some(self.rows[at])
+        } else {
+            None
+        }
     }
 }
 

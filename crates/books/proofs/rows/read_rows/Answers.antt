@@ -45,7 +45,7 @@ returns-in-None g c =
     let first = sym (c .loop-row .inv .0) ∙ bad-here size rule bytes (length bytes / size) row (c .loop-row-test .taken) bad in
     record {
       fault = subst (λ s. Some (Row row) ≡ faultOf s rule bytes) (c .size-size .ensures)
-        (fault-of-rows size rule bytes (Some (Row row)) (c .if-given-size-ne0 .left) (c .if-given-size-gt64 .left) first);
+          (fault-of-rows size rule bytes (Some (Row row)) (c .if-given-size-ne0 .left) (c .if-given-size-gt64 .left) first);
       rows = tt;
     }
 
@@ -58,14 +58,15 @@ loop-row-again g c =
     let rows = c .loop-row .rows in
     let said = c .in-Some .ensures tt in
     let good = rule-at size (g .R·RowKind .size) rule bytes row true (c .size-size .ensures) (c .loop-row-test .taken) (said .0) in
-    let within : row < length rows = omega (arith, c .loop-row .inv .1, c .if-given-size-gt64 .left, c .loop-row-test .taken) in
-    (sym (bad-more size rule bytes (length bytes / size) row (c .loop-row-test .taken) good) ∙ c .loop-row .inv .0,
-     length-set rows row _ ∙ c .loop-row .inv .1,
-     below-more _ _
-       (λ i h d. let other : i ≢ row = λ e. omega (arith, e, h) in
-         subst (g .R·RowKind .reads (rowAt size bytes i)) (sym (getD-set-other rows row i _ d other)) (c .loop-row .inv .2 i h d))
-       (λ d. subst (g .R·RowKind .reads (rowAt size bytes row)) (sym (getD-set-same rows row _ d within))
-         (subst (λ bs. g .R·RowKind .reads bs (c .in-Some .decoded)) (row-is size bytes row) (said .1))))
+    let within : row < length rows = omega (arith, c .loop-row .inv .1, c .if-given-size-gt64 .left, c .loop-row-test .taken) in (
+      sym (bad-more size rule bytes (length bytes / size) row (c .loop-row-test .taken) good) ∙ c .loop-row .inv .0,
+      length-set rows row _ ∙ c .loop-row .inv .1,
+      below-more _ _
+          (λ i h d. let other : i ≢ row = λ e. omega (arith, e, h) in
+          subst (g .R·RowKind .reads (rowAt size bytes i)) (sym (getD-set-other rows row i _ d other)) (c .loop-row .inv .2 i h d))
+          (λ d. subst (g .R·RowKind .reads (rowAt size bytes row)) (sym (getD-set-same rows row _ d within))
+          (subst (λ bs. g .R·RowKind .reads bs (c .in-Some .decoded)) (row-is size bytes row) (said .1))),
+    )
 
 pub returns : need.returns
 returns g c =
@@ -77,9 +78,11 @@ returns g c =
     let all = sym (c .loop-row .inv .0) ∙ bad-none size rule bytes n row (c .loop-row-test .left) in
     record {
       fault = subst (λ s. None ≡ faultOf s rule bytes) (c .size-size .ensures)
-        (fault-of-rows size rule bytes None (c .if-given-size-ne0 .left) (c .if-given-size-gt64 .left) all);
-      rows = (ap (λ s. length bytes / s) (c .size-size .ensures),
+          (fault-of-rows size rule bytes None (c .if-given-size-ne0 .left) (c .if-given-size-gt64 .left) all);
+      rows = (
+        ap (λ s. length bytes / s) (c .size-size .ensures),
         c .if-given-size-gt64 .left,
         λ i h d. let h′ : i < row = omega (arith, h, c .loop-row-test .left) in
-          subst (λ s. g .R·RowKind .reads (rowAt s bytes i) (getD (c .loop-row .rows) i d)) (c .size-size .ensures) (c .loop-row .inv .2 i h′ d));
+            subst (λ s. g .R·RowKind .reads (rowAt s bytes i) (getD (c .loop-row .rows) i d)) (c .size-size .ensures) (c .loop-row .inv .2 i h′ d),
+      );
     }

@@ -12,4 +12,4 @@ returns c =
     let w = c .in-Continue-row .field-0 in
     let found = c .in-Continue-row .ensures tt in
     subst (λ (x : Window). Next (InRow (b .used) (c .args .row) (InWindow (x .low) (x .high))) (c .args .value) (c .next .result)) (found .1)
-      (next-in-row (b .used) (c .args .row) (InWindow (w .low) (w .high)) (found .0) (c .args .value) (c .next .result) (c .next .ensures))
+    (next-in-row (b .used) (c .args .row) (InWindow (w .low) (w .high)) (found .0) (c .args .value) (c .next .result) (c .next .ensures))
