@@ -1,6 +1,6 @@
 -- One more row of a book's bytes.
-use Prim.Native.Nat.{ℕ, suc, _+_, _-_, _*_, _/_, _%_, _<_, _≤_}
-use mathlib.Core.Path.{_≡_, refl, sym, ap, _∙_}
+use Prim.Native.Nat.{ℕ, zero, suc, _+_, _-_, _*_, _/_, _%_, _<_, _≤_}
+use mathlib.Core.Path.{_≡_, refl, sym, ap, subst, _∙_}
 use mathlib.Core.Bool.{Bool, true, false, cond}
 use mathlib.Core.List.{List}
 use native.Mathlib.Omega.{arith}
@@ -8,14 +8,16 @@ use native.Mathlib.Nat.{add-mul}
 use lib.ListN.{length, take, drop}
 use Rattle.std.proofs.shelf.Lists.{length-take-le, length-drop}
 use Rattle.std.proofs.shelf.Bits.{mul-le, div-add-mod'}
-use mathlib.Core.Logic.{inl, inr}
-use Rattle.std.proofs.shelf.Tests.{cond-true, cond-false, and-from, and-parts, eq-eqb, eqb-true, le-leb, leb-true, cases-bool}
+use Rattle.std.specs.Orderings.{Decides}
+use borrow.Author.Count.{below-more}
+use Rattle.std.proofs.shelf.Tests.{cond-true, cond-false, and-from, and-parts, eq-eqb, eqb-true, le-leb, leb-true, cond-both, both-ways}
 use Rattle.std.specs.declared.option.Option.{Option}
 use Rattle.std.specs.declared.option.Option.the-variants.{Some, None}
 use Rattle.books.specs.declared.fault.BookFault.{BookFault}
 use Rattle.books.specs.declared.fault.BookFault.the-variants.{Row, Rows}
 use Rattle.books.specs.Bytes.{rowAt}
 use Rattle.books.specs.Faults.{badFrom, faultOf, whole}
+use Rattle.books.specs.Rows.{Whole, Ruled, Judged}
 
 -- a row ends within the bytes
 pub row-ends : (size given row : ℕ) → row < given / size → row * size + size ≤ given
@@ -58,3 +60,21 @@ pub rule-at : (size sized : ℕ) (rule : List ℕ → Bool) (bytes : List ℕ) (
 rule-at size sized rule bytes row told e h said =
     let is = row-is size bytes row in
     sym (ap rule is) ∙ sym (said (ap length is ∙ row-long size bytes row h ∙ e))
+
+-- the computed fault is the one that the rule gives
+module _ (size : ℕ) (rule : List ℕ → Bool) (Rule : List ℕ → Type 0) (decided : (row : List ℕ) → Decides (rule row) (Rule row)) (bytes : List ℕ) where
+  rows-judged : Whole size bytes → (n i : ℕ) → i + n ≡ length bytes / size → Ruled size Rule bytes i → Judged size Rule bytes (badFrom size rule bytes i n)
+  rows-judged w zero i e h = (w, λ k l. h k (omega (arith, e, l)))
+  rows-judged w (suc n) i e h =
+      cond-both (rule (rowAt size bytes i)) (badFrom size rule bytes (i + 1) n) (Some (Row i)) (Judged size Rule bytes)
+        (λ t. rows-judged w n (i + 1) (omega (arith, e)) (below-more _ i h (decided (rowAt size bytes i) .0 t)))
+        (λ f. (w, omega (arith, e), (λ p. both-ways (rule (rowAt size bytes i)) f (decided (rowAt size bytes i) .1 p)), h))
+
+  pub fault-judged : Judged size Rule bytes (faultOf size rule bytes)
+  fault-judged =
+      cond-both (whole size bytes) (badFrom size rule bytes 0 (length bytes / size)) (Some (Rows (length bytes))) (Judged size Rule bytes)
+        (λ t. rows-judged (eqb-true _ 0 (and-parts _ _ t .0), leb-true _ 64 (and-parts _ _ t .1)) (length bytes / size) 0 (omega arith) (λ i h. absurd (omega arith)))
+        (λ f. ((λ w. both-ways (whole size bytes) f (and-from _ _ (eq-eqb _ 0 (w .0)) (le-leb _ 64 (w .1)))), refl))
+
+  pub judged-by : (o : Option BookFault) → o ≡ faultOf size rule bytes → Judged size Rule bytes o
+  judged-by o e = subst (Judged size Rule bytes) (sym e) fault-judged

@@ -7,3 +7,4 @@ pub mod Windows
 pub mod Slots
 pub mod Faults
 pub mod Tables
+pub mod BookStops

@@ -16,7 +16,7 @@ abbrev pub Same : Type 0 → Type 0 → Type 0
 Same P Q = (P → Q) × (Q → P)
 
 -- what is true of every book: it has at most 64 rows, a row at or past their count admits nothing, and an admitted value has 32 bits
-pub record Rowed {B : Type 0} (count : B → ℕ) (admits : B → ℕ → ℕ → Type 0) : Type 0 where
+pub record Bounded {B : Type 0} (count : B → ℕ) (admits : B → ℕ → ℕ → Type 0) : Type 0 where
   pub few : (b : B) → count b ≤ 64
   pub beyond : (b : B) (row v : ℕ) → count b ≤ row → admits b row v → ⊥
   pub ranged : (b : B) (row v : ℕ) → admits b row v → v < 2 ^ 32

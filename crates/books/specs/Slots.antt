@@ -4,6 +4,9 @@ use mathlib.Core.List.{List}
 use mathlib.Core.Bool.{Bool, _&&_}
 use lib.Dec.{leb}
 use lib.ListN.{length, drop}
+use Rattle.std.specs.Orderings.{Decides}
+use Rattle.std.proofs.shelf.Tests.{leb-true, le-leb}
+use Rattle.std.proofs.shelf.Ways.{decides-and}
 use Rattle.books.specs.Bytes.{numberOf, rowAt}
 use Rattle.books.specs.Sets.{InRow}
 
@@ -20,8 +23,12 @@ widthOf row = numberOf (drop 8 row)
 abbrev pub SlotRule : List ℕ → Type 0
 SlotRule row = (1 ≤ widthOf row) × (firstOf row + widthOf row ≤ periodOf row)
 
+-- the same as a test
 abbrev pub slotRule : List ℕ → Bool
 slotRule row = leb 1 (widthOf row) && leb (firstOf row + widthOf row) (periodOf row)
+
+pub slot-decided : (row : List ℕ) → Decides (slotRule row) (SlotRule row)
+slot-decided row = decides-and _ _ (leb-true _ _, le-leb _ _) (leb-true _ _, le-leb _ _)
 
 -- the clock values in a slot
 abbrev pub InSlot : ℕ → ℕ → ℕ → ℕ → Type 0

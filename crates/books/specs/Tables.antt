@@ -5,13 +5,13 @@ use lib.Dec.{lit≤}
 use Rattle.books.specs.declared.slot.Slot.{Slot}
 use Rattle.books.specs.declared.window.Window.{Window}
 
--- a window that was not read
-abbrev pub unread : Window
-unread = record { low = 0; high = 0 }
+-- the window past them
+abbrev pub blankWindow : Window
+blankWindow = record { low = 0; high = 0 }
 
--- a slot that was not read
-abbrev pub closed : Slot
-closed = record { period = 1; first = 0; width = 1; legal = (lit≤ tt, lit≤ tt) }
+-- the slot past them
+abbrev pub blankSlot : Slot
+blankSlot = record { period = 1; first = 0; width = 1; legal = (lit≤ tt, lit≤ tt) }
 
 -- a row is below the count or at or past it, not both
 pub past : (count row : ℕ) → row < count → count ≤ row → ⊥

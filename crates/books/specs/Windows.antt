@@ -4,6 +4,8 @@ use mathlib.Core.List.{List}
 use mathlib.Core.Bool.{Bool}
 use lib.Dec.{leb}
 use lib.ListN.{length, drop}
+use Rattle.std.specs.Orderings.{Decides}
+use Rattle.std.proofs.shelf.Tests.{leb-true, le-leb}
 use Rattle.books.specs.Bytes.{numberOf, rowAt}
 use Rattle.books.specs.Sets.{InRow}
 
@@ -17,8 +19,12 @@ highOf row = numberOf (drop 4 row)
 abbrev pub WindowRule : List ℕ → Type 0
 WindowRule row = lowOf row ≤ highOf row
 
+-- the same as a test
 abbrev pub windowRule : List ℕ → Bool
 windowRule row = leb (lowOf row) (highOf row)
+
+pub window-decided : (row : List ℕ) → Decides (windowRule row) (WindowRule row)
+window-decided row = (leb-true _ _, le-leb _ _)
 
 -- the clock values from low to high
 abbrev pub InWindow : ℕ → ℕ → ℕ → Type 0

@@ -1,8 +1,7 @@
 //! What is wrong with bytes that are no book.
 
 ghost use mathlib.Core.Path.{_≡_};
-ghost use Rattle.stops.specs.Stops.{stopOf};
-ghost use Rattle.books.specs.declared.fault.BookFault.the-variants.{Rows, Row};
+ghost use Rattle.books.specs.BookStops.{bookStop};
 use stops::stop::Stop;
 
 /// Why a book could not be made of bytes.
@@ -15,7 +14,7 @@ pub enum BookFault {
 }
 
 pub impl From<BookFault> for Stop as StopFromBookFault {
-    ghost converts = { λ fault r. r ≡ (elim fault [ Rows given ↦ stopOf 11 given 0 | Row row ↦ stopOf 12 row 0 ]) };
+    ghost converts = { λ fault r. r ≡ bookStop fault };
 
     fn from(fault: BookFault) -> Stop {
         match fault {

@@ -1,7 +1,7 @@
 //! A margin over any book.
 
 ghost use mathlib.Core.Path.{_≡_};
-ghost use Rattle.books.specs.Margins.{Near, near-rowed};
+ghost use Rattle.books.specs.Margins.{Near, near-bounded};
 use crate::time_book::TimeBook;
 
 /// The book below with a margin: a value is in its row exactly when some value of the row below is at most `by` away.
@@ -25,7 +25,7 @@ pub impl<B: TimeBook> TimeBook for Margin<B> as MarginBook {
 
     ghost admits = { λ m row. Near (B·TimeBook .admits (m .below) row) (m .by) };
 
-    ghost rowed = { near-rowed (λ m. m .below) (λ m. m .by) (B·TimeBook .rowed) };
+    ghost bounded = { near-bounded (λ m. m .below) (λ m. m .by) (B·TimeBook .bounded) };
 
     fn rows(&self) -> usize {
         self.below.rows()

@@ -11,6 +11,8 @@ ghost use Rattle.std.specs.Results.{errPart};
 ghost use Rattle.std.specs.Vec.{made};
 ghost use Rattle.books.specs.Bytes.{rowAt};
 ghost use Rattle.books.specs.Faults.{faultOf};
+ghost use Rattle.books.specs.Rows.{Judged};
+ghost use Rattle.std.specs.Orderings.{Decides};
 use crate::fault::BookFault;
 
 /// A kind of row: how many bytes it has, and which of them are legal.
@@ -20,8 +22,13 @@ pub(crate) trait RowKind: Copy {
 
     ghost sized: { 0 < size };
 
-    /// Whether a row's bytes keep the rule of their kind.
+    /// The rule of the kind, of a row's bytes.
+    ghost legal: { List ℕ → Type 0 };
+
+    /// The same as a test.
     ghost rule: { List ℕ → Bool };
+
+    ghost decided: { (row : List ℕ) → Decides (rule row) (legal row) };
 
     /// That the row has the numbers of these bytes.
     ghost reads: { List ℕ → Self → Type 0 };
@@ -40,6 +47,7 @@ pub(crate) trait RowKind: Copy {
 /// The rows in these bytes, and how many they are.
 pub(crate) fn read_rows<R: RowKind>(bytes: &[u8]) -> Result<([R; 64], usize), BookFault>
     ensures fault { λ r. ⌜ errPart r ≡ faultOf (R·RowKind .size) (R·RowKind .rule) (now (bytes .entry)) ⌝ }
+    ensures judged { λ r. ⌜ Judged (R·RowKind .size) (R·RowKind .legal) (now (bytes .entry)) (errPart r) ⌝ }
     ensures rows { λ r. ⌜ made r (λ t. (t .1 ≡ length (now (bytes .entry)) / R·RowKind .size) × (t .1 ≤ 64) × ((i : ℕ) → i < t .1 → (d : R) → R·RowKind .reads (rowAt (R·RowKind .size) (now (bytes .entry)) i) (getD (t .0) i d))) ⌝ }
 {
     let size = R::size();

@@ -5,7 +5,7 @@ ghost use lib.Dec.{lit<};
 ghost use mathlib.Core.Path.{_≡_};
 ghost use Rattle.books.specs.Nexts.{Next};
 ghost use Rattle.books.specs.Sets.{Holds};
-ghost use Rattle.books.specs.Slots.{InSlot, periodOf, firstOf, widthOf, slotRule};
+ghost use Rattle.books.specs.Slots.{InSlot, periodOf, firstOf, widthOf, SlotRule, slotRule, slot-decided};
 use crate::number::number;
 use crate::rows::RowKind;
 
@@ -47,7 +47,11 @@ pub(crate) impl RowKind for Slot as SlotRow {
 
     ghost sized = { lit< tt };
 
+    ghost legal = { SlotRule };
+
     ghost rule = { slotRule };
+
+    ghost decided = { slot-decided };
 
     ghost reads = { λ row s. (s .period ≡ periodOf row) × (s .first ≡ firstOf row) × (s .width ≡ widthOf row) };
 

@@ -6,7 +6,7 @@ ghost use lib.ListN.{getD};
 ghost use Rattle.std.specs.Options.{Cases};
 ghost use Rattle.books.specs.Sets.{InRow};
 ghost use Rattle.books.specs.Slots.{InSlot};
-ghost use Rattle.books.specs.Tables.{past, closed};
+ghost use Rattle.books.specs.Tables.{past, blankSlot};
 use crate::slot::Slot;
 use crate::time_book::TimeBook;
 
@@ -23,7 +23,7 @@ pub struct Slots {
 impl Slots {
     /// The slot of this row, where there is one.
     fn row(&self, row: u8) -> Option<Slot>
-        ensures { λ r. ⌜ Cases r (now (self .entry) .used ≤ row) (λ s. (row < now (self .entry) .used) × (s ≡ getD (now (self .entry) .rows) row closed)) ⌝ }
+        ensures { λ r. ⌜ Cases r (now (self .entry) .used ≤ row) (λ s. (row < now (self .entry) .used) × (s ≡ getD (now (self .entry) .rows) row blankSlot)) ⌝ }
     {
         let at = row as usize;
         if at < self.used {
@@ -37,9 +37,9 @@ impl Slots {
 pub impl TimeBook for Slots as SlotsBook {
     ghost count = { λ b. b .used };
 
-    ghost admits = { λ b row. InRow (b .used) row (InSlot (getD (b .rows) row closed .period) (getD (b .rows) row closed .first) (getD (b .rows) row closed .width)) };
+    ghost admits = { λ b row. InRow (b .used) row (InSlot (getD (b .rows) row blankSlot .period) (getD (b .rows) row blankSlot .first) (getD (b .rows) row blankSlot .width)) };
 
-    ghost rowed = { record { few = λ b. b .few; beyond = λ b row v h p. past (b .used) row (p .0) h; ranged = λ b row v p. p .1 .0 } };
+    ghost bounded = { record { few = λ b. b .few; beyond = λ b row v h p. past (b .used) row (p .0) h; ranged = λ b row v p. p .1 .0 } };
 
     fn rows(&self) -> usize {
         self.used

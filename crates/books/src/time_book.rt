@@ -3,7 +3,7 @@
 ghost use Prim.Native.Nat.{ℕ};
 ghost use mathlib.Core.Path.{_≡_};
 ghost use Rattle.books.specs.Nexts.{Next};
-ghost use Rattle.books.specs.Sets.{Holds, Rowed};
+ghost use Rattle.books.specs.Sets.{Holds, Bounded};
 
 /// A book of 0 to 64 rows. Each row is a set of clock values from 0 to 4,294,967,295, and a row number
 /// that is not below the count has the empty set. Neither question changes the book.
@@ -15,7 +15,7 @@ pub trait TimeBook {
     ghost admits: { Self → ℕ → ℕ → Type 0 };
 
     /// What each book shows of the two.
-    ghost rowed: { Rowed count admits };
+    ghost bounded: { Bounded count admits };
 
     /// How many rows the book has.
     fn rows(&self) -> usize

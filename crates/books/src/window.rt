@@ -4,7 +4,7 @@ ghost use lib.Dec.{lit<};
 ghost use mathlib.Core.Path.{_≡_};
 ghost use Rattle.books.specs.Nexts.{Next};
 ghost use Rattle.books.specs.Sets.{Holds};
-ghost use Rattle.books.specs.Windows.{InWindow, lowOf, highOf, windowRule};
+ghost use Rattle.books.specs.Windows.{InWindow, lowOf, highOf, WindowRule, windowRule, window-decided};
 use crate::number::number;
 use crate::rows::RowKind;
 
@@ -41,7 +41,11 @@ pub(crate) impl RowKind for Window as WindowRow {
 
     ghost sized = { lit< tt };
 
+    ghost legal = { WindowRule };
+
     ghost rule = { windowRule };
+
+    ghost decided = { window-decided };
 
     ghost reads = { λ row w. (w .low ≡ lowOf row) × (w .high ≡ highOf row) };
 

@@ -6,7 +6,7 @@ ghost use lib.ListN.{getD};
 ghost use Rattle.std.specs.Options.{Cases};
 ghost use Rattle.books.specs.Sets.{InRow};
 ghost use Rattle.books.specs.Windows.{InWindow};
-ghost use Rattle.books.specs.Tables.{past, unread};
+ghost use Rattle.books.specs.Tables.{past, blankWindow};
 use crate::time_book::TimeBook;
 use crate::window::Window;
 
@@ -22,7 +22,7 @@ pub struct Windows {
 
 impl Windows {
     fn row(&self, row: u8) -> Option<Window>
-        ensures { λ r. ⌜ Cases r (now (self .entry) .used ≤ row) (λ w. (row < now (self .entry) .used) × (w ≡ getD (now (self .entry) .rows) row unread)) ⌝ }
+        ensures { λ r. ⌜ Cases r (now (self .entry) .used ≤ row) (λ w. (row < now (self .entry) .used) × (w ≡ getD (now (self .entry) .rows) row blankWindow)) ⌝ }
     {
         let at = row as usize;
         if at < self.used {
@@ -36,9 +36,9 @@ impl Windows {
 pub impl TimeBook for Windows as WindowsBook {
     ghost count = { λ b. b .used };
 
-    ghost admits = { λ b row. InRow (b .used) row (InWindow (getD (b .rows) row unread .low) (getD (b .rows) row unread .high)) };
+    ghost admits = { λ b row. InRow (b .used) row (InWindow (getD (b .rows) row blankWindow .low) (getD (b .rows) row blankWindow .high)) };
 
-    ghost rowed = { record { few = λ b. b .few; beyond = λ b row v h p. past (b .used) row (p .0) h; ranged = λ b row v p. p .1 .0 } };
+    ghost bounded = { record { few = λ b. b .few; beyond = λ b row v h p. past (b .used) row (p .0) h; ranged = λ b row v p. p .1 .0 } };
 
     fn rows(&self) -> usize {
         self.used

@@ -6,8 +6,9 @@ ghost use lib.ListN.{length};
 ghost use Rattle.std.specs.Results.{errPart};
 ghost use Rattle.std.specs.Vec.{made};
 ghost use Rattle.books.specs.Faults.{faultOf};
+ghost use Rattle.books.specs.Rows.{Judged};
 ghost use Rattle.books.specs.Sets.{Same};
-ghost use Rattle.books.specs.Windows.{windowRule, WindowAdmits};
+ghost use Rattle.books.specs.Windows.{WindowRule, windowRule, WindowAdmits};
 ghost use Rattle.books.specs.contracts.windows.WindowsBook.the-impl.{ghosts};
 use crate::fault::BookFault;
 use crate::rows::read_rows;
@@ -19,6 +20,7 @@ impl Windows {
     /// The book in these bytes: rows of 8 bytes, low and high, 32 bits each, high byte first, low at most high.
     pub fn read(bytes: &[u8]) -> Result<Windows, BookFault>
         ensures fault { λ r. ⌜ errPart r ≡ faultOf 8 windowRule (now (bytes .entry)) ⌝ }
+        ensures judged { λ r. ⌜ Judged 8 WindowRule (now (bytes .entry)) (errPart r) ⌝ }
         ensures book { λ r. ⌜ made r (λ b. (ghosts .count b ≡ length (now (bytes .entry)) / 8) × ((row v : ℕ) → Same (ghosts .admits b row v) (WindowAdmits (now (bytes .entry)) row v))) ⌝ }
     {
         let (rows, used) = read_rows::<Window>(bytes)?;

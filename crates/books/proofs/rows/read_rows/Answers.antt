@@ -3,16 +3,25 @@ use borrow.Author.Count.{below-more}
 use Prim.Native.Nat.{ℕ, _+_, _-_, _*_, _/_, _<_, _≤_}
 use mathlib.Core.Path.{_≡_, refl, sym, ap, subst, _∙_}
 use mathlib.Core.Bool.{true, false}
+use mathlib.Core.List.{List}
 use mathlib.Core.Logic.{_≢_}
 use native.Mathlib.Omega.{arith}
 use lib.ListN.{length, getD, length-set}
 use lib.Seq.{getD-set-same, getD-set-other}
+use Rattle.std.specs.declared.option.Option.{Option}
 use Rattle.std.specs.declared.option.Option.the-variants.{Some, None}
+use Rattle.books.specs.declared.fault.BookFault.{BookFault}
 use Rattle.books.specs.declared.fault.BookFault.the-variants.{Row}
 use Rattle.books.specs.Bytes.{rowAt}
 use Rattle.books.specs.Faults.{badFrom, faultOf}
-use Rattle.books.proofs.Reading.{row-ends, row-is, rule-at, bad-more, bad-here, bad-none, fault-of-rows}
+use Rattle.books.specs.Rows.{Judged}
+use Rattle.books.proofs.Reading.{row-ends, row-is, rule-at, bad-more, bad-here, bad-none, fault-of-rows, judged-by}
+use Rattle.books.proofs.rows.read_rows.Given.{Over}
 use Rattle.books.proofs.rows.read_rows.Needs as need
+
+judged : (g : Over) (bytes : List ℕ) (o : Option BookFault) → o ≡ faultOf (g .R·RowKind .size) (g .R·RowKind .rule) bytes
+  → Judged (g .R·RowKind .size) (g .R·RowKind .legal) bytes o
+judged g bytes = judged-by (g .R·RowKind .size) (g .R·RowKind .rule) (g .R·RowKind .legal) (g .R·RowKind .decided) bytes
 
 pub mul-start : need.mul-start
 mul-start g c =
@@ -43,11 +52,9 @@ returns-in-None g c =
     let row = c .loop-row .row in
     let bad = rule-at size (g .R·RowKind .size) rule bytes row false (c .size-size .ensures) (c .loop-row-test .taken) (c .in-None .ensures tt .0) in
     let first = sym (c .loop-row .inv .0) ∙ bad-here size rule bytes (length bytes / size) row (c .loop-row-test .taken) bad in
-    record {
-      fault = subst (λ s. Some (Row row) ≡ faultOf s rule bytes) (c .size-size .ensures)
-          (fault-of-rows size rule bytes (Some (Row row)) (c .if-given-size-ne0 .left) (c .if-given-size-gt64 .left) first);
-      rows = tt;
-    }
+    let fault = subst (λ s. Some (Row row) ≡ faultOf s rule bytes) (c .size-size .ensures)
+      (fault-of-rows size rule bytes (Some (Row row)) (c .if-given-size-ne0 .left) (c .if-given-size-gt64 .left) first) in
+    record { fault = fault; judged = judged g bytes (Some (Row row)) fault; rows = tt }
 
 pub loop-row-again : need.loop-row-again
 loop-row-again g c =
@@ -76,9 +83,11 @@ returns g c =
     let row = c .loop-row .row in
     let n = length bytes / size in
     let all = sym (c .loop-row .inv .0) ∙ bad-none size rule bytes n row (c .loop-row-test .left) in
+    let fault = subst (λ s. None ≡ faultOf s rule bytes) (c .size-size .ensures)
+      (fault-of-rows size rule bytes None (c .if-given-size-ne0 .left) (c .if-given-size-gt64 .left) all) in
     record {
-      fault = subst (λ s. None ≡ faultOf s rule bytes) (c .size-size .ensures)
-          (fault-of-rows size rule bytes None (c .if-given-size-ne0 .left) (c .if-given-size-gt64 .left) all);
+      fault = fault;
+      judged = judged g bytes None fault;
       rows = (
         ap (λ s. length bytes / s) (c .size-size .ensures),
         c .if-given-size-gt64 .left,
