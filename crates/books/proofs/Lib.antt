@@ -1,3 +1,5 @@
 mod Reading
 mod Nexts
 mod Times
+mod Agreeing
+mod Nearing

@@ -67,14 +67,14 @@ module _ (size : ℕ) (rule : List ℕ → Bool) (Rule : List ℕ → Type 0) (d
   rows-judged w zero i e h = (w, λ k l. h k (omega (arith, e, l)))
   rows-judged w (suc n) i e h =
       cond-both (rule (rowAt size bytes i)) (badFrom size rule bytes (i + 1) n) (Some (Row i)) (Judged size Rule bytes)
-        (λ t. rows-judged w n (i + 1) (omega (arith, e)) (below-more _ i h (decided (rowAt size bytes i) .0 t)))
-        (λ f. (w, omega (arith, e), (λ p. both-ways (rule (rowAt size bytes i)) f (decided (rowAt size bytes i) .1 p)), h))
+      (λ t. rows-judged w n (i + 1) (omega (arith, e)) (below-more _ i h (decided (rowAt size bytes i) .0 t)))
+      (λ f. (w, omega (arith, e), (λ p. both-ways (rule (rowAt size bytes i)) f (decided (rowAt size bytes i) .1 p)), h))
 
   pub fault-judged : Judged size Rule bytes (faultOf size rule bytes)
   fault-judged =
       cond-both (whole size bytes) (badFrom size rule bytes 0 (length bytes / size)) (Some (Rows (length bytes))) (Judged size Rule bytes)
-        (λ t. rows-judged (eqb-true _ 0 (and-parts _ _ t .0), leb-true _ 64 (and-parts _ _ t .1)) (length bytes / size) 0 (omega arith) (λ i h. absurd (omega arith)))
-        (λ f. ((λ w. both-ways (whole size bytes) f (and-from _ _ (eq-eqb _ 0 (w .0)) (le-leb _ 64 (w .1)))), refl))
+      (λ t. rows-judged (eqb-true _ 0 (and-parts _ _ t .0), leb-true _ 64 (and-parts _ _ t .1)) (length bytes / size) 0 (omega arith) (λ i h. absurd (omega arith)))
+      (λ f. ((λ w. both-ways (whole size bytes) f (and-from _ _ (eq-eqb _ 0 (w .0)) (le-leb _ 64 (w .1)))), refl))
 
   pub judged-by : (o : Option BookFault) → o ≡ faultOf size rule bytes → Judged size Rule bytes o
   judged-by o e = subst (Judged size Rule bytes) (sym e) fault-judged

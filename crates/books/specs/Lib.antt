@@ -8,3 +8,6 @@ pub mod Slots
 pub mod Faults
 pub mod Tables
 pub mod BookStops
+pub mod HoldsLaws
+pub mod NextLaws
+pub mod MarginLaws

@@ -1,6 +1,7 @@
 //! Time books: for each row a set of clock values, and two questions about it.
 
 pub mod fault;
+pub mod law;
 pub mod margin;
 mod number;
 mod rows;

@@ -20,7 +20,7 @@ use Rattle.books.proofs.rows.read_rows.Given.{Over}
 use Rattle.books.proofs.rows.read_rows.Needs as need
 
 judged : (g : Over) (bytes : List ℕ) (o : Option BookFault) → o ≡ faultOf (g .R·RowKind .size) (g .R·RowKind .rule) bytes
-  → Judged (g .R·RowKind .size) (g .R·RowKind .legal) bytes o
+    → Judged (g .R·RowKind .size) (g .R·RowKind .legal) bytes o
 judged g bytes = judged-by (g .R·RowKind .size) (g .R·RowKind .rule) (g .R·RowKind .legal) (g .R·RowKind .decided) bytes
 
 pub mul-start : need.mul-start
@@ -53,7 +53,7 @@ returns-in-None g c =
     let bad = rule-at size (g .R·RowKind .size) rule bytes row false (c .size-size .ensures) (c .loop-row-test .taken) (c .in-None .ensures tt .0) in
     let first = sym (c .loop-row .inv .0) ∙ bad-here size rule bytes (length bytes / size) row (c .loop-row-test .taken) bad in
     let fault = subst (λ s. Some (Row row) ≡ faultOf s rule bytes) (c .size-size .ensures)
-      (fault-of-rows size rule bytes (Some (Row row)) (c .if-given-size-ne0 .left) (c .if-given-size-gt64 .left) first) in
+    (fault-of-rows size rule bytes (Some (Row row)) (c .if-given-size-ne0 .left) (c .if-given-size-gt64 .left) first) in
     record { fault = fault; judged = judged g bytes (Some (Row row)) fault; rows = tt }
 
 pub loop-row-again : need.loop-row-again
@@ -84,7 +84,7 @@ returns g c =
     let n = length bytes / size in
     let all = sym (c .loop-row .inv .0) ∙ bad-none size rule bytes n row (c .loop-row-test .left) in
     let fault = subst (λ s. None ≡ faultOf s rule bytes) (c .size-size .ensures)
-      (fault-of-rows size rule bytes None (c .if-given-size-ne0 .left) (c .if-given-size-gt64 .left) all) in
+    (fault-of-rows size rule bytes None (c .if-given-size-ne0 .left) (c .if-given-size-gt64 .left) all) in
     record {
       fault = fault;
       judged = judged g bytes None fault;

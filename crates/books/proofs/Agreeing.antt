@@ -1,0 +1,35 @@
+-- A set gives each question one answer.
+use Prim.Native.Nat.{ℕ}
+use mathlib.Core.Path.{_≡_, refl, ap}
+use mathlib.Core.Bool.{Bool, true, false}
+use mathlib.Core.Logic.{⊎-elim}
+use native.Mathlib.Omega.{arith}
+use Rattle.std.proofs.shelf.Tests.{cases-lt}
+use Rattle.std.specs.declared.option.Option.{Option}
+use Rattle.std.specs.declared.option.Option.the-variants.{Some, None}
+use Rattle.books.specs.Nexts.{Next, LeastFrom}
+use Rattle.books.specs.Sets.{Holds}
+
+pub holds-no : (P : ℕ → Type 0) (v : ℕ) (a : Bool) → (P v → ⊥) → Holds P v a → a ≡ false
+holds-no P v true h p = absurd (h p)
+holds-no P v false h p = refl
+
+pub holds-yes : (P : ℕ → Type 0) (v : ℕ) (a : Bool) → P v → Holds P v a → a ≡ true
+holds-yes P v true h p = refl
+holds-yes P v false h p = absurd (p h)
+
+pub holds-once : (P : ℕ → Type 0) (v : ℕ) (a b : Bool) → Holds P v a → Holds P v b → a ≡ b
+holds-once P v a true p q = holds-yes P v a q p
+holds-once P v a false p q = holds-no P v a q p
+
+least-once : (P : ℕ → Type 0) (v w x : ℕ) → LeastFrom P v w → LeastFrom P v x → w ≡ x
+least-once P v w x p q =
+    ⊎-elim (λ less. absurd (q .least w (p .above) less (p .within)))
+    (λ more. ⊎-elim (λ less. absurd (p .least x (q .above) less (q .within))) (λ same. omega arith) (cases-lt x w))
+    (cases-lt w x)
+
+pub next-once : (P : ℕ → Type 0) (v : ℕ) (a b : Option ℕ) → Next P v a → Next P v b → a ≡ b
+next-once P v None None p q = refl
+next-once P v None (Some x) p q = absurd (p x (q .above) (q .within))
+next-once P v (Some w) None p q = absurd (q w (p .above) (p .within))
+next-once P v (Some w) (Some x) p q = ap Some (least-once P v w x p q)
