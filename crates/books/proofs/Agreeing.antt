@@ -8,7 +8,8 @@ use Rattle.std.proofs.shelf.Tests.{cases-lt}
 use Rattle.std.specs.declared.option.Option.{Option}
 use Rattle.std.specs.declared.option.Option.the-variants.{Some, None}
 use Rattle.books.specs.Nexts.{Next, LeastFrom}
-use Rattle.books.specs.Sets.{Holds}
+use Rattle.books.specs.Sets.{Holds, Same}
+use Rattle.books.proofs.Nexts.{next-same}
 
 pub holds-no : (P : ℕ → Type 0) (v : ℕ) (a : Bool) → (P v → ⊥) → Holds P v a → a ≡ false
 holds-no P v true h p = absurd (h p)
@@ -33,3 +34,14 @@ next-once P v None None p q = refl
 next-once P v None (Some x) p q = absurd (p x (q .above) (q .within))
 next-once P v (Some w) None p q = absurd (q w (p .above) (p .within))
 next-once P v (Some w) (Some x) p q = ap Some (least-once P v w x p q)
+
+-- two sets with the same values give the same answers
+module _ (P Q : ℕ → Type 0) (same : (u : ℕ) → Same (P u) (Q u)) where
+  pub next-by : (v : ℕ) (a b : Option ℕ) → Next P v a → Next Q v b → a ≡ b
+  next-by v a b n m = next-once Q v a b (next-same P Q (λ u. same u .0) (λ u. same u .1) v a n) m
+
+  pub holds-by : (v : ℕ) (a b : Bool) → Holds P v a → Holds Q v b → a ≡ b
+  holds-by v true true p q = refl
+  holds-by v false false p q = refl
+  holds-by v true false p q = absurd (q (same v .0 p))
+  holds-by v false true p q = absurd (p (same v .1 q))

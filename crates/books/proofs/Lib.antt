@@ -3,3 +3,4 @@ mod Nexts
 mod Times
 mod Agreeing
 mod Nearing
+pub mod Working

@@ -56,3 +56,8 @@ module _ (P : ℕ → Type 0) (ranged : (u : ℕ) → P u → u < 2 ^ 32) where
       let widest = piled .widest (d + e) v wide in
       ((λ n. sum .1 (widest .1 (subst (λ m. Near P m v) (sym full) n))), (λ n. subst (λ m. Near P m v) full (widest .0 (sum .0 n)))))
       (cases-lt (d + e) (2 ^ 32 - 1))
+
+-- margins of the same width over sets with the same values
+pub near-same : (P Q : ℕ → Type 0) (e : ℕ) → ((u : ℕ) → Same (P u) (Q u)) → (u : ℕ) → Same (Near P e u) (Near Q e u)
+near-same P Q e same u =
+    ((λ n. (n .0, (n .1 .0, same (n .1 .0) .0 (n .1 .1), n .1 .2, n .1 .3))), (λ n. (n .0, (n .1 .0, same (n .1 .0) .1 (n .1 .1), n .1 .2, n .1 .3))))

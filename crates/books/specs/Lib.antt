@@ -11,3 +11,4 @@ pub mod BookStops
 pub mod HoldsLaws
 pub mod NextLaws
 pub mod MarginLaws
+pub mod Cases

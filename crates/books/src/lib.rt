@@ -1,5 +1,6 @@
 //! Time books: for each row a set of clock values, and two questions about it.
 
+pub mod cases;
 pub mod fault;
 pub mod law;
 pub mod margin;
