@@ -1,10 +1,11 @@
 -- A set gives each question one answer.
 use Prim.Native.Nat.{ℕ}
-use mathlib.Core.Path.{_≡_, refl, ap}
+use mathlib.Core.Path.{_≡_, refl, ap, subst}
 use mathlib.Core.Bool.{Bool, true, false}
 use mathlib.Core.Logic.{⊎-elim}
 use native.Mathlib.Omega.{arith}
-use Rattle.std.proofs.shelf.Tests.{cases-lt}
+use lib.Dec.{eqb}
+use Rattle.std.proofs.shelf.Tests.{cases-lt, eqb-true, eqb-false}
 use Rattle.std.specs.declared.option.Option.{Option}
 use Rattle.std.specs.declared.option.Option.the-variants.{Some, None}
 use Rattle.books.specs.Nexts.{Next, LeastFrom}
@@ -45,3 +46,11 @@ module _ (P Q : ℕ → Type 0) (same : (u : ℕ) → Same (P u) (Q u)) where
   holds-by v false false p q = refl
   holds-by v true false p q = absurd (q (same v .0 p))
   holds-by v false true p q = absurd (p (same v .1 q))
+
+-- `holds` by way of `next`
+pub holds-from-next : (P : ℕ → Type 0) (v w : ℕ) → Next P v (Some w) → Holds P v (eqb w v)
+holds-from-next P v w n = told (eqb w v) refl
+  where
+    told : (a : Bool) → eqb w v ≡ a → Holds P v a
+    told true t = subst P (eqb-true w v t) (n .within)
+    told false f = λ p. n .least v (omega arith) (let other = eqb-false w v f in let h = n .above in omega (arith, other, h)) p

@@ -1,6 +1,6 @@
-mod Reading
-mod Nexts
-mod Times
-mod Agreeing
-mod Nearing
+pub mod Reading
+pub mod Nexts
+pub mod Times
+pub mod Agreeing
+pub mod Nearing
 pub mod Working
