@@ -2,7 +2,6 @@
 
 mod compare;
 mod counted;
-mod marks;
 mod plain;
 mod readings;
 mod tables;

@@ -1,6 +1,6 @@
 //! What the rows mean, tested value by value.
 
-use crate::marks::Mark;
+use mark_book::Mark;
 
 /// The greatest clock value.
 pub(crate) const LAST: u64 = 4_294_967_295;

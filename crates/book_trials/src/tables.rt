@@ -1,6 +1,6 @@
 //! The rows that are tried, as numbers and as bytes.
 
-use crate::marks::Mark;
+use mark_book::Mark;
 
 const LAST: u32 = 4_294_967_295;
 

@@ -4,8 +4,6 @@ use crate::compare::Tally;
 use crate::compare::trial;
 use crate::counted::Counted;
 use crate::counted::CountedBook;
-use crate::marks::Marks;
-use crate::marks::MarksBook;
 use crate::plain::MarksPlain;
 use crate::plain::NearPlain;
 use crate::plain::PlainMarks;
@@ -30,6 +28,8 @@ use books::slots::SlotsBook;
 use books::time_book::TimeBook;
 use books::windows::Windows;
 use books::windows::WindowsBook;
+use mark_book::Marks;
+use mark_book::MarksBook;
 use std::cell::Cell;
 
 /// The window book.

@@ -1,4 +1,4 @@
--- Computed: the fault of a book's bytes, found row by row.
+-- Computed: the fault of a book's bytes, found row by row. The clauses `judged` of the two `read` tie it to what the rule says.
 use Prim.Native.Nat.{ℕ, zero, suc, _+_, _/_, _%_}
 use mathlib.Core.Bool.{Bool, cond, _&&_}
 use mathlib.Core.List.{List}

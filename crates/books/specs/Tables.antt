@@ -1,4 +1,4 @@
--- Computed: what a table has past its rows, and a fact that the books' ghost members cite.
+-- Computed: what a table has past its rows, which no row's set depends on, and a fact that the books' ghost members cite.
 use Prim.Native.Nat.{ℕ, _≤_, _<_}
 use native.Mathlib.Omega.{arith}
 use lib.Dec.{lit≤}

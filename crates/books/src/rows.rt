@@ -17,7 +17,7 @@ use crate::fault::BookFault;
 
 /// A kind of row: how many bytes it has, and which of them are legal.
 pub(crate) trait RowKind: Copy {
-    /// How many bytes a row has.
+    /// How many bytes a row has: at least one.
     ghost size: { ℕ };
 
     ghost sized: { 0 < size };
@@ -33,6 +33,7 @@ pub(crate) trait RowKind: Copy {
     /// That the row has the numbers of these bytes.
     ghost reads: { List ℕ → Self → Type 0 };
 
+    /// How many bytes a row has.
     fn size() -> usize
         ensures { λ r. ⌜ r ≡ size ⌝ };
 
@@ -44,7 +45,7 @@ pub(crate) trait RowKind: Copy {
         ensures { λ r. ⌜ (length (now (bytes .entry)) ≡ size → isSome r ≡ rule (now (bytes .entry))) × found r (reads (now (bytes .entry))) ⌝ };
 }
 
-/// The rows in these bytes, and how many they are.
+/// The rows in these bytes and their count, or the fault of the bytes.
 pub(crate) fn read_rows<R: RowKind>(bytes: &[u8]) -> Result<([R; 64], usize), BookFault>
     ensures fault { λ r. ⌜ errPart r ≡ faultOf (R·RowKind .size) (R·RowKind .rule) (now (bytes .entry)) ⌝ }
     ensures judged { λ r. ⌜ Judged (R·RowKind .size) (R·RowKind .legal) (now (bytes .entry)) (errPart r) ⌝ }

@@ -21,6 +21,7 @@ pub struct Windows {
 }
 
 impl Windows {
+    /// The window of this row, where there is one.
     fn row(&self, row: u8) -> Option<Window>
         ensures { λ r. ⌜ Cases r (now (self .entry) .used ≤ row) (λ w. (row < now (self .entry) .used) × (w ≡ getD (now (self .entry) .rows) row blankWindow)) ⌝ }
     {

@@ -51,7 +51,7 @@ returns-in-None g c =
     let bytes = c .args .bytes .now in
     let row = c .loop-row .row in
     let bad = rule-at size (g .R·RowKind .size) rule bytes row false (c .size-size .ensures) (c .loop-row-test .taken) (c .in-None .ensures tt .0) in
-    let first = sym (c .loop-row .inv .0) ∙ bad-here size rule bytes (length bytes / size) row (c .loop-row-test .taken) bad in
+    let first : badFrom size rule bytes 0 (length bytes / size) ≡ Some (Row row) = sym (c .loop-row .inv .0) ∙ bad-here size rule bytes (length bytes / size) row (c .loop-row-test .taken) bad in
     let fault = subst (λ s. Some (Row row) ≡ faultOf s rule bytes) (c .size-size .ensures)
     (fault-of-rows size rule bytes (Some (Row row)) (c .if-given-size-ne0 .left) (c .if-given-size-gt64 .left) first) in
     record { fault = fault; judged = judged g bytes (Some (Row row)) fault; rows = tt }
@@ -82,7 +82,7 @@ returns g c =
     let bytes = c .args .bytes .now in
     let row = c .loop-row .row in
     let n = length bytes / size in
-    let all = sym (c .loop-row .inv .0) ∙ bad-none size rule bytes n row (c .loop-row-test .left) in
+    let all : badFrom size rule bytes 0 n ≡ None = sym (c .loop-row .inv .0) ∙ bad-none size rule bytes n row (c .loop-row-test .left) in
     let fault = subst (λ s. None ≡ faultOf s rule bytes) (c .size-size .ensures)
     (fault-of-rows size rule bytes None (c .if-given-size-ne0 .left) (c .if-given-size-gt64 .left) all) in
     record {

@@ -3,10 +3,13 @@
 ghost use Prim.Native.Nat.{ℕ, _<_, _≤_, min};
 ghost use mathlib.Core.Path.{_≡_};
 ghost use lib.ListN.{length};
+ghost use Rattle.books.specs.Margins.{Near};
 ghost use Rattle.books.specs.Nexts.{Next};
 ghost use Rattle.books.specs.Sets.{InRow};
 ghost use Rattle.books.specs.Tables.{past};
-ghost use Rattle.book_trials.specs.Marked.{Marked};
+ghost use Rattle.mark_book.specs.Marked.{Marked};
+use books::margin::Margin;
+use books::margin::MarginBook;
 use books::time_book::TimeBook;
 
 /// A value of a row.
@@ -33,6 +36,13 @@ impl Marks {
             rows: rows.min(64),
             marks,
         }
+    }
+
+    /// The least value at or above this one under two margins over this book.
+    pub fn next_under_margins(self, inner: u32, outer: u32, row: u8, value: u32) -> Option<u32>
+        ensures { λ r. ⌜ Next (Near (Near (InRow (self .rows) row (Marked (self .marks) (length (self .marks)) row)) inner) outer) value r ⌝ }
+    {
+        Margin::over(Margin::over(self, inner), outer).next(row, value)
     }
 }
 

@@ -3,7 +3,7 @@ use Prim.Native.Nat.{ℕ, _<_, _^_}
 use mathlib.Core.Path.{_≡_}
 use mathlib.Core.List.{List}
 use lib.ListN.{getD}
-use Rattle.book_trials.specs.declared.marks.Mark.{Mark}
+use Rattle.mark_book.specs.declared.Mark.{Mark}
 
 abbrev pub noMark : Mark
 noMark = record { row = 0; value = 0 }

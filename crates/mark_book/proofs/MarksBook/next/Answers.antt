@@ -1,7 +1,7 @@
 use lib.ListN.{length}
 use Rattle.books.proofs.Nexts.{next-in-row}
-use Rattle.book_trials.specs.Marked.{Marked}
-use Rattle.book_trials.proofs.marks.MarksBook.next.Needs as need
+use Rattle.mark_book.specs.Marked.{Marked}
+use Rattle.mark_book.proofs.MarksBook.next.Needs as need
 
 pub returns-then-row-self : need.returns-then-row-self
 returns-then-row-self c =

@@ -10,8 +10,8 @@ use Rattle.std.specs.Options.{valueOr}
 use Rattle.std.specs.declared.option.Option.{Option}
 use Rattle.std.specs.declared.option.Option.the-variants.{Some, None}
 use Rattle.books.specs.Nexts.{Next, LeastFrom}
-use Rattle.book_trials.specs.declared.marks.Mark.{Mark}
-use Rattle.book_trials.specs.Marked.{Marked, noMark}
+use Rattle.mark_book.specs.declared.Mark.{Mark}
+use Rattle.mark_book.specs.Marked.{Marked, noMark}
 
 -- the mark puts u into the row
 abbrev Puts : Mark → ℕ → ℕ → Type 0

@@ -5,10 +5,10 @@ use lib.ListN.{length, getD}
 use Rattle.std.specs.Options.{valueOr}
 use Rattle.std.specs.declared.option.Option.the-variants.{Some}
 use Rattle.books.specs.Nexts.{Next}
-use Rattle.book_trials.specs.Marked.{Marked, noMark}
-use Rattle.book_trials.proofs.Marking.{mark-passed, mark-taken}
-use Rattle.book_trials.proofs.marks.first_from.Needs as need
-use Rattle.book_trials.proofs.marks.first_from.Needs.{then-mark-row·then-value-mark, else-mark-row, else-mark-row·by·then-mark-row·else-value-mark, else-mark-row·by·else-mark-row}
+use Rattle.mark_book.specs.Marked.{Marked, noMark}
+use Rattle.mark_book.proofs.Marking.{mark-passed, mark-taken}
+use Rattle.mark_book.proofs.first_from.Needs as need
+use Rattle.mark_book.proofs.first_from.Needs.{then-mark-row·then-value-mark, else-mark-row, else-mark-row·by·then-mark-row·else-value-mark, else-mark-row·by·else-mark-row}
 
 pub loop-mark-again : need.loop-mark-again
 loop-mark-again c =
