@@ -1,0 +1,14 @@
+pub mod Sets
+pub mod Nexts
+pub mod Margins
+pub mod Bytes
+pub mod Rows
+pub mod Windows
+pub mod Slots
+pub mod Faults
+pub mod Tables
+pub mod BookStops
+pub mod HoldsLaws
+pub mod NextLaws
+pub mod MarginLaws
+pub mod Cases
