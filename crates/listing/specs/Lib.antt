@@ -1,0 +1,5 @@
+pub mod Text
+pub mod Lines
+pub mod Pieces
+pub mod Page
+pub mod Listed
