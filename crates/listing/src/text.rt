@@ -1,10 +1,9 @@
 //! A text that grows.
 
 ghost use mathlib.Core.Path.{_≡_};
-ghost use mathlib.Core.List.{[], _++_};
+ghost use mathlib.Core.List.{[]};
 ghost use Rattle.std.specs.Of.Vec.{vec-items};
 ghost use Rattle.std.specs.Options.{Cases as BySome};
-ghost use Rattle.std.specs.Vec.{made};
 ghost use Rattle.listing.specs.Text.{said, Adds};
 use std::alloc::AllocError;
 use std::alloc::Global;
@@ -47,6 +46,7 @@ impl Text {
     pub fn into_bytes(self) -> Vec<u8>
         ensures { λ r. ⌜ vec-items r ≡ said self ⌝ }
     {
-        self.bytes
+        let Text { bytes, heap: _ } = self;
+        bytes
     }
 }
