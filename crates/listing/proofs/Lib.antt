@@ -1,2 +1,2 @@
-mod Adding
 mod Handed
+mod Numbered

@@ -1,30 +1,15 @@
--- Meaning: the lines in which a sheet or a stop is told.
+-- Meaning: the lines in which a sheet is told.
 use Prim.Native.Nat.{ℕ}
 use mathlib.Core.Bool.{cond}
 use mathlib.Core.List.{List, [], _∷_, _++_}
 use lib.Chars.{codes}
 use lib.Dec.{eqb}
 use lib.ListN.{getD}
-use Rattle.std.specs.Options.{valueOr}
 use Rattle.std.specs.Written.{decimal}
-use Rattle.stops.specs.Words.{words, wordOf}
-use Rattle.stops.specs.declared.stop.Stop.{Stop}
+use Rattle.text.specs.Lines.{line}
 use Rattle.sheet.specs.declared.branch.Branch.{Branch}
 use Rattle.sheet.specs.declared.counts.Counts.{Counts}
 use Rattle.sheet.specs.Model.{Name, Sheet}
-
--- parts one after another, and a line break
-abbrev pub line : List (List ℕ) → List ℕ
-line [] = codes "\n"
-line (part ∷ parts) = part ++ line parts
-
--- the word of a number in the table of stops
-abbrev pub wordFor : ℕ → List ℕ
-wordFor number = valueOr (wordOf number words) []
-
-unfoldable pub stopLine : Stop → List ℕ
-stopLine stop =
-    line (codes "STOP " ∷ decimal (stop .number) ∷ codes " " ∷ wordFor (stop .number) ∷ codes " " ∷ decimal (stop .first) ∷ codes " " ∷ decimal (stop .second) ∷ [])
 
 abbrev pub countsLine : Counts → List ℕ
 countsLine c =

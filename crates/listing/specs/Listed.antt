@@ -9,13 +9,13 @@ use Rattle.std.specs.declared.option.Option.{Option}
 use Rattle.std.specs.declared.option.Option.the-variants.{Some, None}
 use Rattle.stops.specs.Stops.{stopOf}
 use Rattle.stops.specs.declared.stop.Stop.{Stop}
+use Rattle.text.specs.StopLine.{stopLine}
 use Rattle.sheet.specs.Decode.{model}
 use Rattle.sheet.specs.Model.{Sheet}
 use Rattle.sheet.specs.Refuse.{fault}
 use Rattle.sheet.specs.Stop.{stopped}
 use Rattle.listing.specs.declared.fault.ListFault.{ListFault}
 use Rattle.listing.specs.declared.fault.ListFault.the-variants.{Cut, Reading}
-use Rattle.listing.specs.Lines.{stopLine}
 use Rattle.listing.specs.Page.{page}
 
 -- too long an input is judged before everything else

@@ -1,13 +1,11 @@
 //! The lines that tell a state's branches.
 
-ghost use mathlib.Core.Path.{_≡_};
 ghost use Rattle.std.specs.shelf.Lists.{joined};
 ghost use Rattle.sheet.specs.Decode.{branches as branchesIn};
 ghost use Rattle.reading.specs.Reads.{sheetOf};
 ghost use Rattle.listing.specs.Lines.{branchLine};
-ghost use Rattle.listing.specs.Text.{Adds};
+ghost use Rattle.text.specs.Growing.{Adds};
 use crate::parts::part;
-use crate::text::Text;
 use crate::times::Time;
 use crate::times::TimeDisplay;
 use crate::times::clocks;
@@ -16,6 +14,7 @@ use reading::read_sheet::ReadSheet;
 use reading::states::split_branch;
 use sheet::branch::Branch;
 use std::alloc::AllocError;
+use text::growing::Text;
 
 fn put_branch(text: &mut Text, sheet: &ReadSheet, branch: Branch) -> Result<(), AllocError>
     ensures { λ r. ⌜ Adds (now (text .entry)) (now (text .exit)) r (branchLine (sheetOf (now (sheet .entry))) branch) ⌝ }

@@ -7,6 +7,4 @@ mod names;
 pub mod page;
 mod parts;
 mod states;
-pub mod stop_line;
-pub mod text;
 mod times;

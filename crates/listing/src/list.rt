@@ -13,13 +13,13 @@ use crate::fault::ListFault;
 use crate::fault::ListFaultFromReadFault;
 use crate::fault::StopFromListFault;
 use crate::page::put_page;
-use crate::stop_line::put_stop;
-use crate::text::Text;
 use reading::read::read;
 use reading::read_sheet::ReadSheet;
 use std::alloc::AllocError;
 use std::alloc::Global;
 use stops::stop::Stop;
+use text::growing::Text;
+use text::stop_line::put_stop;
 
 /// The most bytes that an input may have: as many as a sheet's offsets of 16 bits can name.
 pub const MOST_INPUT: usize = 65_535;
@@ -36,7 +36,7 @@ fn examine(input: &[u8]) -> Result<ReadSheet, ListFault>
 }
 
 /// What is printed for an input: the page of the sheet that it encodes, or its stop alone.
-/// It fails only where memory does.
+/// An error says that memory failed.
 pub fn list(heap: Global, input: &[u8]) -> Result<Vec<u8>, AllocError>
     ensures value { λ r. ⌜ made r (λ text. vec-items text ≡ listed (now (input .entry))) ⌝ }
     ensures told { λ r. ⌜ ((sh : Sheet) → Encodes (now (input .entry)) sh → made r (λ text. vec-items text ≡ page sh)) ⌝ }

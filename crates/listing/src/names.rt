@@ -1,17 +1,16 @@
 //! The lines that tell the names of a sheet.
 
-ghost use mathlib.Core.Path.{_≡_};
 ghost use Rattle.reading.specs.Reads.{sheetOf};
 ghost use Rattle.listing.specs.Lines.{nameLine};
 ghost use Rattle.listing.specs.Page.{numbered};
 ghost use Rattle.listing.specs.Pieces.{piecesOf};
-ghost use Rattle.listing.specs.Text.{Adds};
+ghost use Rattle.text.specs.Growing.{Adds};
 use crate::parts::count_of;
 use crate::parts::part;
-use crate::text::Text;
 use reading::piece::Kind;
 use reading::read_sheet::ReadSheet;
 use std::alloc::AllocError;
+use text::growing::Text;
 
 fn put_name(text: &mut Text, heading: &str, number: usize, name: &[u8]) -> Result<(), AllocError>
     ensures { λ r. ⌜ Adds (now (text .entry)) (now (text .exit)) r (nameLine (now (heading .entry)) number (now (name .entry))) ⌝ }

@@ -1,17 +1,16 @@
 //! The page that tells a sheet.
 
-ghost use mathlib.Core.Path.{_≡_};
 ghost use Rattle.reading.specs.Reads.{sheetOf};
 ghost use Rattle.listing.specs.Lines.{countsLine};
 ghost use Rattle.listing.specs.Page.{page as pageOf};
-ghost use Rattle.listing.specs.Text.{Adds};
+ghost use Rattle.text.specs.Growing.{Adds};
 use crate::names::put_names;
 use crate::states::put_states;
-use crate::text::Text;
 use reading::piece::Kind;
 use reading::read_sheet::ReadSheet;
 use sheet::counts::Counts;
 use std::alloc::AllocError;
+use text::growing::Text;
 
 fn put_counts(text: &mut Text, counts: Counts) -> Result<(), AllocError>
     ensures { λ r. ⌜ Adds (now (text .entry)) (now (text .exit)) r (countsLine counts) ⌝ }

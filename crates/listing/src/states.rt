@@ -1,19 +1,18 @@
 //! The lines that tell the states of a sheet.
 
-ghost use mathlib.Core.Path.{_≡_};
 ghost use Rattle.sheet.specs.Decode.{stateOf};
 ghost use Rattle.reading.specs.Reads.{sheetOf};
 ghost use Rattle.listing.specs.Lines.{endLine, exchangeLine};
 ghost use Rattle.listing.specs.Page.{numbered, stateLines};
-ghost use Rattle.listing.specs.Text.{Adds};
+ghost use Rattle.text.specs.Growing.{Adds};
 use crate::branches::put_branches;
 use crate::parts::count_of;
 use crate::parts::part;
-use crate::text::Text;
 use reading::piece::Kind;
 use reading::read_sheet::ReadSheet;
 use reading::states::split_state;
 use std::alloc::AllocError;
+use text::growing::Text;
 
 fn put_end(text: &mut Text, number: usize) -> Result<(), AllocError>
     ensures { λ r. ⌜ Adds (now (text .entry)) (now (text .exit)) r (endLine number) ⌝ }

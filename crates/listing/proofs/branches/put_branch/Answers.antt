@@ -1,12 +1,12 @@
 use Prim.Native.Nat.{ℕ}
-use mathlib.Core.Path.{_≡_, ap, _∙_}
+use mathlib.Core.Path.{ap, _∙_}
 use mathlib.Core.List.{List, _++_}
 use lib.Chars.{codes}
 use Rattle.std.specs.Written.{decimal}
 use Rattle.reading.specs.Reads.{sheetOf}
 use Rattle.listing.specs.Lines.{labelName, timeOf, branchLine}
-use Rattle.listing.specs.Text.{said}
-use Rattle.listing.proofs.Adding.{further, ends}
+use Rattle.text.specs.Growing.{said}
+use Rattle.text.proofs.Adding.{further, ends}
 use Rattle.listing.proofs.branches.put_branch.Needs as need
 
 -- what follows the label's name

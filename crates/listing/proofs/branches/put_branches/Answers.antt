@@ -1,10 +1,10 @@
-use mathlib.Core.Path.{_≡_, sym, ap, _∙_}
+use mathlib.Core.Path.{sym, ap, _∙_}
 use mathlib.Core.List.{_++_, append-assoc, append-nil}
 use Rattle.std.specs.shelf.Lists.{joined}
 use Rattle.sheet.specs.Decode.{branches}
 use Rattle.reading.specs.Reads.{sheetOf}
 use Rattle.listing.specs.Lines.{branchLine}
-use Rattle.listing.specs.Text.{said}
+use Rattle.text.specs.Growing.{said}
 use Rattle.listing.proofs.branches.put_branches.Needs as need
 
 pub loop-branch-again : need.loop-branch-again

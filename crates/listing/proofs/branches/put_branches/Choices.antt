@@ -5,7 +5,7 @@ use Rattle.std.specs.shelf.Lists.{joined}
 use Rattle.sheet.specs.Decode.{branches}
 use Rattle.reading.specs.Reads.{sheetOf}
 use Rattle.listing.specs.Lines.{branchLine}
-use Rattle.listing.specs.Text.{said}
+use Rattle.text.specs.Growing.{said}
 use Rattle.listing.proofs.branches.put_branches.Given as given
 
 abbrev pub Inv-loop-branch : given.InvT-loop-branch

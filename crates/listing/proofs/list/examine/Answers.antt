@@ -1,5 +1,4 @@
 use mathlib.Core.Path.{_≡_, sym, ap, _∙_}
-use native.Mathlib.Omega.{arith}
 use borrow.Author.Tests.{lt-ltb, le-ltb}
 use lib.Dec.{ltb}
 use lib.ListN.{length}
@@ -7,7 +6,7 @@ use mathlib.Core.Bool.{true, false}
 use Rattle.std.specs.Options.{mapped}
 use Rattle.std.proofs.shelf.Results.{err-from-errBy}
 use Rattle.std.proofs.shelf.Tests.{cond-true, cond-false}
-use Rattle.listing.specs.declared.fault.ListFault.the-variants.{Cut, Reading}
+use Rattle.listing.specs.declared.fault.ListFault.the-variants.{Reading}
 use Rattle.listing.specs.Listed.{inputFault}
 use Rattle.listing.proofs.list.examine.Needs as need
 

@@ -1,7 +1,7 @@
 use Prim.Native.Nat.{ℕ}
 use mathlib.Core.Path.{_≡_, sym, ap, _∙_}
 use mathlib.Core.Bool.{false}
-use mathlib.Core.List.{List, [], _++_}
+use mathlib.Core.List.{List, _++_}
 use native.Mathlib.Omega.{arith}
 use borrow.Author.Tests.{le-ltb}
 use lib.Dec.{ltb}
@@ -20,10 +20,10 @@ use Rattle.sheet.proofs.Pieces.{model-encode}
 use Rattle.reading.specs.Reads.{bytesOf, sheetOf}
 use Rattle.listing.specs.declared.fault.ListFault.{ListFault}
 use Rattle.listing.specs.declared.fault.ListFault.the-variants.{Reading}
-use Rattle.listing.specs.Lines.{stopLine}
+use Rattle.text.specs.StopLine.{stopLine}
 use Rattle.listing.specs.Listed.{inputFault, stopFor, told, listed}
 use Rattle.listing.specs.Page.{page}
-use Rattle.listing.specs.Text.{said}
+use Rattle.text.specs.Growing.{said}
 use Rattle.listing.proofs.list.list.Needs as need
 use Rattle.listing.proofs.list.list.Needs.{in-Ok·in-Continue-put-page, in-Err·in-Continue-put-stop}
 

@@ -3,9 +3,10 @@ use mathlib.Core.Path.{_≡_}
 use mathlib.Core.List.{List, [], _∷_, _++_, append-assoc}
 use lib.Chars.{codes}
 use Rattle.std.specs.Written.{decimal}
-use Rattle.listing.specs.Lines.{line, nameLine}
-use Rattle.listing.specs.Text.{said}
-use Rattle.listing.proofs.Adding.{further, ends}
+use Rattle.text.specs.Lines.{line}
+use Rattle.listing.specs.Lines.{nameLine}
+use Rattle.text.specs.Growing.{said}
+use Rattle.text.proofs.Adding.{further, ends}
 use Rattle.listing.proofs.names.put_name.Needs as need
 
 whole : (heading number name : List ℕ) → ((heading ++ (codes " " ++ (number ++ codes " "))) ++ name) ++ codes "\n" ≡ line (heading ∷ codes " " ∷ number ∷ codes " " ∷ name ∷ [])

@@ -1,14 +1,14 @@
 use Prim.Native.Nat.{_<_, _≤_}
-use mathlib.Core.Path.{_≡_, sym, ap, _∙_}
+use mathlib.Core.Path.{sym, ap, _∙_}
 use mathlib.Core.List.{[], _++_}
 use native.Mathlib.Omega.{arith}
-use lib.ListN.{length, getD}
+use lib.ListN.{length}
 use Rattle.reading.specs.Handing.{countsOf, pieceCountOf}
 use Rattle.reading.specs.Reads.{sheetOf}
 use Rattle.listing.specs.Lines.{nameLine}
 use Rattle.listing.specs.Pieces.{piecesOf}
-use Rattle.listing.specs.Text.{said}
-use Rattle.listing.proofs.Adding.{numbered-more, numbered-all}
+use Rattle.text.specs.Growing.{said}
+use Rattle.listing.proofs.Numbered.{numbered-more, numbered-all}
 use Rattle.listing.proofs.Handed.{length-pieces, piece-among}
 use Rattle.listing.proofs.names.put_names.Needs as need
 

@@ -5,7 +5,7 @@ use Rattle.reading.specs.Reads.{sheetOf}
 use Rattle.listing.specs.Lines.{nameLine}
 use Rattle.listing.specs.Page.{numbered}
 use Rattle.listing.specs.Pieces.{piecesOf}
-use Rattle.listing.specs.Text.{said}
+use Rattle.text.specs.Growing.{said}
 use Rattle.listing.proofs.names.put_names.Given as given
 
 abbrev pub Inv-loop-number : given.InvT-loop-number

@@ -1,12 +1,12 @@
-use mathlib.Core.Path.{_≡_, refl, ap, _∙_}
+use mathlib.Core.Path.{refl, ap, _∙_}
 use mathlib.Core.List.{_++_}
 use lib.Chars.{codes}
 use Rattle.reading.specs.Handing.{countsOf}
 use Rattle.reading.specs.Reads.{sheetOf}
 use Rattle.listing.specs.Lines.{countsLine, nameLine}
 use Rattle.listing.specs.Page.{numbered, stateLines, page}
-use Rattle.listing.specs.Text.{said}
-use Rattle.listing.proofs.Adding.{further, ends}
+use Rattle.text.specs.Growing.{said}
+use Rattle.text.proofs.Adding.{further, ends}
 use Rattle.listing.proofs.page.put_page.Needs as need
 
 pub returns : need.returns

@@ -4,9 +4,10 @@ use mathlib.Core.List.{List, [], _∷_, _++_, append-assoc}
 use lib.Chars.{codes}
 use Rattle.std.specs.Written.{decimal}
 use Rattle.reading.specs.Reads.{sheetOf}
-use Rattle.listing.specs.Lines.{line, roleName, exchangeLine}
-use Rattle.listing.specs.Text.{said}
-use Rattle.listing.proofs.Adding.{further, ends}
+use Rattle.text.specs.Lines.{line}
+use Rattle.listing.specs.Lines.{roleName, exchangeLine}
+use Rattle.text.specs.Growing.{said}
+use Rattle.text.proofs.Adding.{further, ends}
 use Rattle.listing.proofs.states.put_exchange.Needs as need
 
 whole : (number sender receiver : List ℕ) → ((((codes "STATE " ++ (number ++ codes " ")) ++ sender) ++ codes " to ") ++ receiver) ++ codes "\n"

@@ -1,15 +1,15 @@
 use Prim.Native.Nat.{_<_, _≤_}
-use mathlib.Core.Path.{_≡_, sym, ap, _∙_}
+use mathlib.Core.Path.{ap, _∙_}
 use mathlib.Core.List.{_++_}
 use native.Mathlib.Omega.{arith}
 use lib.ListN.{length, getD}
 use Rattle.sheet.specs.Decode.{stateOf}
-use Rattle.sheet.specs.Model.{State, ended}
+use Rattle.sheet.specs.Model.{ended}
 use Rattle.sheet.proofs.Bodies.{stateOf-body}
 use Rattle.reading.specs.Reads.{sheetOf}
 use Rattle.listing.specs.Page.{stateLines}
-use Rattle.listing.specs.Text.{said}
-use Rattle.listing.proofs.Adding.{numbered-more, numbered-all}
+use Rattle.text.specs.Growing.{said}
+use Rattle.listing.proofs.Numbered.{numbered-more, numbered-all}
 use Rattle.listing.proofs.states.put_states.Needs as need
 
 pub loop-number-again : need.loop-number-again

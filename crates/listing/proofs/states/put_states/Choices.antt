@@ -3,7 +3,7 @@ use mathlib.Core.List.{_++_}
 use lib.ListN.{drop}
 use Rattle.reading.specs.Reads.{sheetOf}
 use Rattle.listing.specs.Page.{numbered, stateLines}
-use Rattle.listing.specs.Text.{said}
+use Rattle.text.specs.Growing.{said}
 use Rattle.listing.proofs.states.put_states.Given as given
 
 abbrev pub Inv-loop-number : given.InvT-loop-number

@@ -3,10 +3,11 @@ use mathlib.Core.Path.{_≡_, ap, _∙_}
 use mathlib.Core.List.{List, [], _∷_, _++_, append-assoc}
 use lib.Chars.{codes}
 use Rattle.std.specs.Written.{decimal}
-use Rattle.listing.specs.Lines.{line, wordFor, stopLine}
-use Rattle.listing.specs.Text.{said}
-use Rattle.listing.proofs.Adding.{further, ends}
-use Rattle.listing.proofs.stop_line.put_stop.Needs as need
+use Rattle.text.specs.Lines.{line}
+use Rattle.text.specs.StopLine.{wordFor, stopLine}
+use Rattle.text.specs.Growing.{said}
+use Rattle.text.proofs.Adding.{further, ends}
+use Rattle.text.proofs.stop_line.put_stop.Needs as need
 
 whole : (number word first second : List ℕ) → ((codes "STOP " ++ (number ++ codes " ")) ++ word) ++ (codes " " ++ (first ++ (codes " " ++ (second ++ codes "\n"))))
     ≡ line (codes "STOP " ∷ number ∷ codes " " ∷ word ∷ codes " " ∷ first ∷ codes " " ∷ second ∷ [])

@@ -1,9 +1,9 @@
 //! The line that tells a stop.
 
 ghost use mathlib.Core.Path.{_≡_};
-ghost use Rattle.listing.specs.Lines.{wordFor, stopLine};
-ghost use Rattle.listing.specs.Text.{Adds};
-use crate::text::Text;
+ghost use Rattle.text.specs.StopLine.{wordFor, stopLine};
+ghost use Rattle.text.specs.Growing.{Adds};
+use crate::growing::Text;
 use std::alloc::AllocError;
 use stops::stop::Stop;
 use stops::table::word;

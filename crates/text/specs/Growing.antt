@@ -6,7 +6,7 @@ use Rattle.std.specs.Of.Vec.{vec-items}
 use Rattle.std.specs.Vec.{made}
 use Rattle.std.specs.declared.alloc.AllocError.{AllocError}
 use Rattle.std.specs.declared.result.Result.{Result}
-use Rattle.listing.specs.declared.text.Text.{Text}
+use Rattle.text.specs.declared.growing.Text.{Text}
 
 abbrev pub said : Text → List ℕ
 said text = vec-items (text .bytes)

@@ -4,7 +4,7 @@ ghost use mathlib.Core.Path.{_≡_};
 ghost use mathlib.Core.List.{[]};
 ghost use Rattle.std.specs.Of.Vec.{vec-items};
 ghost use Rattle.std.specs.Options.{Cases as BySome};
-ghost use Rattle.listing.specs.Text.{said, Adds};
+ghost use Rattle.text.specs.Growing.{said, Adds};
 use std::alloc::AllocError;
 use std::alloc::Global;
 use std::fmt::Display;

@@ -1,24 +1,11 @@
--- A text that grows step by step.
+-- A numbered list, item by item: what was added and what is left make the whole.
 use Prim.Native.Nat.{ℕ, _+_, _<_, _≤_}
-use mathlib.Core.Path.{_≡_, refl, sym, ap, _∙_}
-use mathlib.Core.List.{List, [], _∷_, _++_, append-assoc, append-nil}
+use mathlib.Core.Path.{_≡_, sym, ap, _∙_}
+use mathlib.Core.List.{List, _++_, append-assoc, append-nil}
 use lib.ListN.{length, getD, drop}
-use Rattle.std.specs.Vec.{made}
-use Rattle.std.specs.declared.result.Result.{Result}
-use Rattle.std.specs.declared.result.Result.the-variants.{Ok, Err}
 use Rattle.std.proofs.shelf.Lists.{at-drop-more, at-drop-all}
 use Rattle.listing.specs.Page.{numbered}
 
--- x is the text at the start, y what it is after `a` was added, z what it is after `b` was added too
-pub further : (x y z a b : List ℕ) → y ≡ x ++ a → z ≡ y ++ b → z ≡ x ++ (a ++ b)
-further x y z a b before after = after ∙ ap (λ t. t ++ b) before ∙ append-assoc x a b
-
--- the last step, after which the whole was added
-pub ends : {T E : Type 0} (r : Result T E) (x y z a b whole : List ℕ) → y ≡ x ++ a → a ++ b ≡ whole → made r (λ _. z ≡ y ++ b) → made r (λ _. z ≡ x ++ whole)
-ends (Ok t) x y z a b whole before e after = further x y z a b before after ∙ ap (λ w. x ++ w) e
-ends (Err e) x y z a b whole before _ after = tt
-
--- a numbered list, item by item: what was added and what is left make the whole
 module _ {X : Type 0} (tell : ℕ → X → List ℕ) (xs : List X) (d : X) where
   pub numbered-more : (x y z : List ℕ) (i : ℕ) → i < length xs → z ≡ y ++ tell i (getD xs i d) → y ++ numbered tell i (drop i xs) ≡ x ++ numbered tell 0 xs → z ++ numbered tell (i + 1) (drop (i + 1) xs) ≡ x ++ numbered tell 0 xs
   numbered-more x y z i h after inv =
