@@ -35,7 +35,7 @@ ended-no-place : {A : Type 0} (a b : ℕ) (bs : List Branch) → ended ≡ excha
 ended-no-place a b bs e = let z : _≡_ {A = ℕ} 0 1 = cc in absurd (omega arith)
 
 -- from an end nothing is reached
-end-reaches : (sh : Sheet) (m s : ℕ) → getD (sh .states) s ended ≡ ended → Reaches sh m s → ⊥
+pub end-reaches : (sh : Sheet) (m s : ℕ) → getD (sh .states) s ended ≡ ended → Reaches sh m s → ⊥
 end-reaches sh m s q (now a i) =
     let step = i .1 in
     ended-no-place (step .place .sender) (step .place .receiver) (step .has .branches) (sym q ∙ ap (λ (n : ℕ). getD (sh .states) n ended) (sym (step .at)) ∙ step .has .stands)

@@ -10,3 +10,4 @@ pub mod Fronts
 pub mod Channelled
 pub mod Shares
 pub mod Ending
+pub mod Worked

@@ -6,3 +6,4 @@ pub mod Monitor
 pub mod Stands
 pub mod Closing
 pub mod Laws
+pub mod Examples

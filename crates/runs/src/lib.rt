@@ -3,4 +3,5 @@
 
 pub mod book;
 pub mod events;
+pub mod examples;
 pub mod monitor;
