@@ -7,3 +7,5 @@ mod Collecting
 mod Tallying
 mod Blanks
 mod Entering
+mod Following
+mod Exploring

@@ -40,10 +40,6 @@ ends label as′ = gather (λ a. eqb (a .label) label) (λ a. a .next) 0 as′
 unfoldable pub successor : View → ℕ → ℕ → ℕ
 successor v mask label = spread (v .silent) (ends label (inSet mask (v .acts)))
 
--- the role has an act with that label in the set
-unfoldable pub hasLabel : View → ℕ → ℕ → Bool
-hasLabel v mask label = isSome (firstOf label (inSet mask (v .acts)))
-
 -- where a set stands among those found; their number, where it does not
 abbrev pub position : ℕ → List ℕ → ℕ
 position mask [] = 0
@@ -60,13 +56,14 @@ entered sets mask =
     cond (ltb (position mask sets) (length sets)) (Some sets)
     (cond (ltb (length sets) 32) (Some (sets ++ mask ∷ [])) None)
 
-unfoldable pub labelEntered : View → ℕ → List ℕ → ℕ → Option (List ℕ)
-labelEntered v mask sets label = cond (hasLabel v mask label) (entered sets (successor v mask label)) (Some sets)
+-- the successor under that label, where the role has an act with it
+unfoldable pub labelEntered : List Edge → List Act → List ℕ → ℕ → Option (List ℕ)
+labelEntered silent as′ sets label = cond (isSome (firstOf label as′)) (entered sets (spread silent (ends label as′))) (Some sets)
 
--- the successors of a set under n labels, from that label on
-abbrev pub followed : View → ℕ → ℕ → ℕ → List ℕ → Option (List ℕ)
-followed v mask label zero sets = Some sets
-followed v mask label (suc n) sets = elim (labelEntered v mask sets label) [ None ↦ None | Some more ↦ followed v mask (label + 1) n more ]
+-- the successors of a set in which the role does this, under n labels, from that label on
+abbrev pub followed : List Edge → List Act → ℕ → ℕ → List ℕ → Option (List ℕ)
+followed silent as′ label zero sets = Some sets
+followed silent as′ label (suc n) sets = elim (labelEntered silent as′ sets label) [ None ↦ None | Some more ↦ followed silent as′ (label + 1) n more ]
 
 -- a role's sets, or the fault
 pub data Found : Type 0 where
@@ -79,21 +76,26 @@ faultAt Offer role set = fault.Offer role set
 faultAt Clash role set = fault.Clash role set
 faultAt Untold role set = fault.Untold role set
 
-abbrev pub judged : View → ℕ → Option Point
-judged v mask = firstFailing (v .leading) mask (inSet mask (v .acts))
+abbrev pub foundOr : PartFault → Option (List ℕ) → Found
+foundOr f None = stopped f
+foundOr f (Some more) = sets more
 
--- set k and those after it are judged, then followed
+abbrev pub unless : Option Point → ℕ → ℕ → Found → Found
+unless None role set found = found
+unless (Some point) role set found = stopped (faultAt point role set)
+
+-- a set is judged, then followed: set k, in whose states the role does this
+unfoldable pub visited : ℕ → View → ℕ → ℕ → ℕ → List ℕ → Found
+visited role v labels k mask found =
+    unless (firstFailing (v .leading) mask (inSet mask (v .acts))) role k
+    (foundOr (fault.Sets role k) (followed (v .silent) (inSet mask (v .acts)) 0 labels found))
+
+-- set k and those after it
 abbrev pub explored : ℕ → View → ℕ → ℕ → ℕ → List ℕ → Found
 explored role v labels zero k found = sets found
 explored role v labels (suc n) k found =
     cond (ltb k (length found))
-    (elim (judged v (getD found k 0)) [
-      | Some point ↦ stopped (faultAt point role k)
-      | None ↦ elim (followed v (getD found k 0) 0 labels found) [
-        | None ↦ stopped (fault.Sets role k)
-        | Some more ↦ explored role v labels n (k + 1) more
-      ]
-    ])
+    (elim (visited role v labels k (getD found k 0) found) [ stopped f ↦ stopped f | sets more ↦ explored role v labels n (k + 1) more ])
     (sets found)
 
 -- the sets of a role, of which there may be 32

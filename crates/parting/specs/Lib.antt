@@ -7,3 +7,4 @@ pub mod Stop
 pub mod Bounds
 pub mod Lists
 pub mod Sets
+pub mod Seen
