@@ -16,7 +16,7 @@ const SAMPLES: u32 = 400;
 const ROWS: [u8; 16] = [0, 1, 2, 3, 4, 5, 6, 7, 8, 9, 10, 11, 12, 63, 64, 255];
 
 /// How many questions were asked, and how many answers differ.
-#[derive(Clone, Copy)]
+#[derive(Drop)]
 pub(crate) struct Tally {
     pub asked: u64,
     pub differ: u64,

@@ -12,7 +12,7 @@ pub(crate) trait Plain {
 }
 
 /// Rows of low and high.
-#[derive(Clone, Copy)]
+#[derive(Drop)]
 pub(crate) struct PlainWindows<'a> {
     pub rows: &'a [(u32, u32)],
 }
@@ -28,7 +28,7 @@ pub(crate) impl<'a> Plain for PlainWindows<'a> as WindowsPlain {
 }
 
 /// Rows of period, first and width.
-#[derive(Clone, Copy)]
+#[derive(Drop)]
 pub(crate) struct PlainSlots<'a> {
     pub rows: &'a [(u32, u32, u32)],
 }
@@ -48,7 +48,7 @@ pub(crate) impl<'a> Plain for PlainSlots<'a> as SlotsPlain {
 }
 
 /// The marks of each row.
-#[derive(Clone, Copy)]
+#[derive(Drop)]
 pub(crate) struct PlainMarks<'a> {
     pub rows: usize,
     pub marks: &'a [Mark],
@@ -66,7 +66,7 @@ pub(crate) impl<'a> Plain for PlainMarks<'a> as MarksPlain {
 }
 
 /// Every value that is at most `by` away from one of the rows below, found by trying each.
-#[derive(Clone, Copy)]
+#[derive(Drop)]
 pub(crate) struct PlainNear<P> {
     pub below: P,
     pub by: u32,
@@ -86,7 +86,7 @@ pub(crate) impl<P: Plain> Plain for PlainNear<P> as NearPlain {
 }
 
 /// The marks of each row under two margins of any width: each mark becomes the values from the lowest to the highest that both reach.
-#[derive(Clone, Copy)]
+#[derive(Drop)]
 pub(crate) struct PlainReach<'a> {
     pub rows: usize,
     pub marks: &'a [Mark],
