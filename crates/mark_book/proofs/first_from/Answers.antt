@@ -20,7 +20,7 @@ loop-mark-again c =
     elim (c .if-mark-row .came) [
       | then-mark-row·then-value-mark w ↦
           let is : min (valueOr (c .loop-mark .first) x) x ≡ w .min .result = ap (λ n. min n x) (sym (w .unwrap-or .ensures)) ∙ sym (w .min .ensures) in
-          let taken = mark-taken ms i row v x (c .loop-mark .first) (w .if-mark-row .taken, refl) (w .if-value-mark .taken) (omega (arith, is, w .min .ok)) (c .loop-mark .inv) in
+          let taken = mark-taken ms i row v x (c .loop-mark .first) (w .if-mark-row .taken, refl) (omega (arith, w .if-value-mark .taken)) (omega (arith, is, w .min .ok)) (c .loop-mark .inv) in
           subst (Next (Marked ms (i + 1) row) v) (ap Some is ∙ sym (w .first-is)) taken
       | else-mark-row w ↦
           subst (Next (Marked ms (i + 1) row) v) (sym (w .first-is)) (mark-passed ms i row v (c .loop-mark .first)

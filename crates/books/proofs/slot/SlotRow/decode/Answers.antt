@@ -42,7 +42,7 @@ returns-then-first-width c =
     let b = c .in-Continue-first .ensures tt in
     let d = c .in-Continue-width .ensures tt in
     let read = numbers (c .args .bytes .now) (c .in-Continue-period .rest .now) (c .in-Continue-first .rest .now) _ _ _ (a .1) (a .2) (b .1) (b .2) (d .1) in
-    ((λ _. kept (c .args .bytes .now) _ _ _ read (c .if-width-ge1 .taken) (c .if-first-width .taken)), read)
+    ((λ _. kept (c .args .bytes .now) _ _ _ read (omega (arith, c .if-width-ge1 .taken)) (omega (arith, c .if-first-width .taken))), read)
 
 pub returns-else-width-ge1 : need.returns-else-width-ge1
 returns-else-width-ge1 c =
