@@ -11,3 +11,5 @@ pub mod Channelled
 pub mod Shares
 pub mod Ending
 pub mod Worked
+pub mod Ranges
+pub mod Exact

@@ -4,6 +4,7 @@ use mathlib.Core.Path.{_≡_}
 use mathlib.Core.List.{List, [], _∷_, _++_, map}
 use mathlib.Core.Logic.{_↔_, _⊎_, _≢_}
 use lib.ListN.{length}
+use Rattle.std.specs.shelf.Lists.{All}
 use Rattle.std.specs.declared.option.Option.{Option}
 use Rattle.std.specs.declared.option.Option.the-variants.{Some, None}
 use Rattle.sheet.specs.Model.{Sheet}
@@ -117,3 +118,20 @@ abbrev pub Closing : Book → Type 0
 Closing book =
     (sh : Sheet) → Valid sh → Accepted sh → (opening depth : ℕ) (es : List Event) (σ : Monitor) → Stands sh book opening depth es σ →
     ((m : ℕ) → m < length (sh .roles) → Finished sh m (InSet σ m)) ↔ Completes sh es
+
+-- an event that names what the sheet has: roles below their count and apart, a label below its count, direction 0 or 1
+pub record InRange (sh : Sheet) (e : Event) : Type 0 where
+  pub role-known : e .role < length (sh .roles)
+  pub partner-known : e .partner < length (sh .roles)
+  pub apart : e .role ≢ e .partner
+  pub label-known : e .label < length (sh .labels)
+  pub direction-known : e .direction ≤ 1
+
+-- no run of a valid sheet has any other event
+abbrev pub In-range : Book → Type 0
+In-range book = (sh : Sheet) → Valid sh → (opening depth : ℕ) (es : List Event) → Run sh book opening depth es → All (InRange sh) es
+
+-- The lists of events that a monitor passes, one after the other, are exactly the runs.
+abbrev pub Passed-are-runs : Book → Type 0
+Passed-are-runs book =
+    (sh : Sheet) → Valid sh → Accepted sh → (opening depth : ℕ) (es : List Event) → ((σ : Monitor) × Reached sh book opening depth es σ) ↔ Run sh book opening depth es

@@ -3,12 +3,20 @@
 use crate::book::Rows;
 ghost use Rattle.protocol.specs.Accepted.{Accepted};
 ghost use Rattle.runs.specs.Steady.{AllSteady};
-ghost use Rattle.runs.specs.Laws.{Beginnings, Channels-read, Sets-read, Closing};
+ghost use Rattle.runs.specs.Laws.{Beginnings, In-range, Channels-read, Sets-read, Closing};
 
 /// No events are a run, and every beginning of a run is a run.
 /// Answers the edition that the law is about.
 pub fn beginnings_stand<B: Rows>() -> u8
     ensures { λ _. ⌜ ((b : B) → Beginnings (B·Rows .admits b)) ⌝ }
+{
+    1
+}
+
+/// No run has an event with a role, a partner or a label that the sheet does not have, with itself as
+/// partner, or with a direction above 1.
+pub fn ranges_stand<B: Rows>() -> u8
+    ensures { λ _. ⌜ ((b : B) → In-range (B·Rows .admits b)) ⌝ }
 {
     1
 }

@@ -3,7 +3,7 @@
 use crate::book::Rows;
 ghost use Rattle.protocol.specs.Accepted.{Accepted};
 ghost use Rattle.runs.specs.Steady.{AllSteady};
-ghost use Rattle.runs.specs.Laws.{Agreement, Foresight, Keeping, Accepted-is-steady};
+ghost use Rattle.runs.specs.Laws.{Agreement, Foresight, Keeping, Accepted-is-steady, Passed-are-runs};
 
 /// Agreement. After any events that passed, the next event passes exactly when with it they are a run of
 /// the sheet: for every valid and accepted sheet, every book, opening tick and depth. It is so too where
@@ -30,6 +30,13 @@ pub fn foresight_stands<B: Rows>() -> u8
 pub fn keeping_stands<B: Rows>() -> u8
     ensures accepted { λ _. ⌜ ((b : B) → Keeping Accepted (B·Rows .admits b)) ⌝ }
     ensures steady { λ _. ⌜ ((b : B) → Keeping AllSteady (B·Rows .admits b)) ⌝ }
+{
+    1
+}
+
+/// The lists of events that a monitor passes, one after the other, are exactly the runs of the sheet.
+pub fn passing_stands<B: Rows>() -> u8
+    ensures { λ _. ⌜ ((b : B) → Passed-are-runs (B·Rows .admits b)) ⌝ }
 {
     1
 }
