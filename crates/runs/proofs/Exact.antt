@@ -1,24 +1,22 @@
 -- The lists of events that a monitor passes are exactly the runs.
 use Prim.Native.Nat.{ℕ, _<_, _≤_}
-use mathlib.Core.Path.{_≡_, refl, sym, _∙_, ap, subst}
-use mathlib.Core.Bool.{Bool, true, false, cond}
+use mathlib.Core.Path.{_≡_, refl, sym, subst}
+use mathlib.Core.Bool.{Bool, false, cond}
 use mathlib.Core.List.{List, [], _∷_, _++_, append-nil, append-assoc}
-use mathlib.Core.Logic.{_≢_, _↔_, _⊎_, inl, inr}
+use mathlib.Core.Logic.{_⊎_, inl, inr}
 use native.Mathlib.Omega.{arith}
 use lib.Dec.{eqb}
 use lib.ListN.{length, getD}
 use Rattle.std.specs.Orderings.{Decides}
-use Rattle.std.proofs.shelf.Lists.{map-push}
 use Rattle.std.proofs.shelf.Tests.{cond-true, cond-false, eq-eqb, ne-eqb, cases-lt}
 use Rattle.sheet.specs.Model.{Sheet}
 use Rattle.sheet.specs.Valid.{Valid}
 use Rattle.protocol.specs.Actions.{Action}
-use Rattle.protocol.specs.Sets.{Start, Led, Successor, After, Followed}
+use Rattle.protocol.specs.Sets.{Start, Successor, After, Followed}
 use Rattle.protocol.specs.Accepted.{HasPart, Accepted}
 use Rattle.protocol.proofs.Closures.{Within, successor-within, after-push, followed-push}
 use Rattle.runs.specs.Events.{Event, own, labels}
 use Rattle.runs.specs.Run.{Book, Run}
-use Rattle.runs.specs.Waiting.{Message}
 use Rattle.runs.specs.Monitor.{Monitor, InSet, Opened, Passes, channelAfter, Changes, Reached, opened, passed}
 use Rattle.runs.specs.Stands.{SetAfter, Stands}
 use Rattle.runs.specs.Laws.{Passed-are-runs}
@@ -71,9 +69,6 @@ module _ (sh : Sheet) (book : Book) (valid : Valid sh) (accepted : Accepted sh) 
   -- the set after one event more
   next-set : (es : List Event) (σ : Monitor) (k : Stands sh book o d es σ) (e : Event) (p : Passes sh book d σ e) → (set : ℕ → Bool) × ((s : ℕ) → Decides (set s) (Successor sh (e .role) (InSet σ (e .role)) (e .label) s))
   next-set es σ k e p =
-      let m : ℕ = e .role in
-      let X : ℕ → Type 0 = SetAfter sh (e .role) es in
-      let ls : List ℕ = labels (own (e .role) es) in
       let f : Followed sh (e .role) (Start sh (e .role)) (labels (own (e .role) es)) = accepts-followed sh book (e .role) (Start sh (e .role)) o (own (e .role) es) (on-path sh book o d es (k .run) (e .role) .accepts) in
       let i = able-within sh (e .role) (InSet σ (e .role)) (SetAfter sh (e .role) es) (λ s x. k .set (e .role) s (p .role-known) .0 x) (p .action) (p .able) in
       let g : Followed sh (e .role) (Start sh (e .role)) (labels (own (e .role) es) ++ (e .label ∷ [])) = followed-push sh (e .role) (Start sh (e .role)) (labels (own (e .role) es)) (e .label) (i .acts .0) f (able-led sh (e .role) (SetAfter sh (e .role) es) (p .action) i (e .label) (p .fits .label)) in

@@ -13,3 +13,4 @@ pub mod Ending
 pub mod Worked
 pub mod Ranges
 pub mod Exact
+pub mod Forecast

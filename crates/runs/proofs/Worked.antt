@@ -1,6 +1,6 @@
 -- The examples, by computation.
 use Prim.Native.Nat.{ℕ, zero, suc, _<_, _≤_}
-use mathlib.Core.Path.{_≡_, refl, sym, _∙_, ap, subst}
+use mathlib.Core.Path.{_≡_, refl, ap, subst}
 use mathlib.Core.Bool.{true}
 use mathlib.Core.List.{List, [], _∷_, _++_, List·Memᴰ, List·Memᴰ·head, List·Memᴰ·tail}
 use mathlib.Core.Logic.{_⊎_, inl, inr}
@@ -9,9 +9,9 @@ use lib.Dec.{ltb}
 use lib.ListN.{length}
 use Rattle.std.specs.declared.option.Option.the-variants.{None}
 use Rattle.std.specs.shelf.Lists.{All}
-use Rattle.sheet.specs.Model.{Sheet, ended, exchange}
+use Rattle.sheet.specs.Model.{Sheet}
 use Rattle.sheet.specs.Encode.{encode}
-use Rattle.sheet.specs.Decode.{table, model}
+use Rattle.sheet.specs.Decode.{table}
 use Rattle.sheet.specs.Names.{alike}
 use Rattle.sheet.specs.Refuse.{countFault, headerFault, placed, branchFault, fault}
 use Rattle.sheet.specs.Law.{Bytes}
@@ -19,19 +19,19 @@ use Rattle.sheet.specs.Valid.{Valid}
 use Rattle.sheet.proofs.Sound.{sound}
 use Rattle.sheet.proofs.Pieces.{model-encode}
 use Rattle.protocol.specs.Places.{Place, Has}
-use Rattle.protocol.specs.Actions.{Way, sends, receives, Action, receiving, turn}
+use Rattle.protocol.specs.Actions.{Way, sends, receives, receiving, turn}
 use Rattle.protocol.specs.Paths.{PathFrom, share}
 use Rattle.protocol.specs.Sets.{here, on, Start}
-use Rattle.protocol.specs.Accepted.{HasPart, Accepted}
+use Rattle.protocol.specs.Accepted.{Accepted}
 use Rattle.std.proofs.shelf.Tests.{and-parts, ltb-true}
 use Rattle.protocol.proofs.Listed.{places, every, listed-from-has, place-at}
-use Rattle.protocol.proofs.Checked.{part-of, part-true}
-use Rattle.protocol.proofs.Turns.{cons-head, nil-cons}
+use Rattle.protocol.proofs.Checked.{part-true}
+use Rattle.protocol.proofs.Turns.{nil-cons}
 use Rattle.runs.specs.Events.{Event, directionOf, mine, own, along, sent, taken}
-use Rattle.runs.specs.Run.{Book, Rising, InOrder, Channels, Fits, Beginning, timings, Timely, Run}
+use Rattle.runs.specs.Run.{Rising, InOrder, Channels, Beginning, timings, Timely, Run}
 use Rattle.runs.specs.Waiting.{waiting}
 use Rattle.runs.specs.Closing.{Whole, Completes}
-use Rattle.runs.specs.Examples.{branch, event, oven, windows, heated, falling, unsent, astray, neither, late, OnSomePath, TimelyOnSomePath, NoRun, OvenExamples, ticker, sendings, TickerExamples, relay, untold, ThirdPartyExamples}
+use Rattle.runs.specs.Examples.{branch, event, oven, windows, heated, falling, unsent, astray, neither, late, TimelyOnSomePath, NoRun, OvenExamples, ticker, sendings, TickerExamples, relay, untold, ThirdPartyExamples}
 use Rattle.runs.proofs.Own.{mine-other, own-unknown, along-direction, more-none}
 use Rattle.runs.proofs.Clocks.{Follows, beginning, timely}
 use Rattle.runs.proofs.Growth.{Fit, in-order-step, channels-now, channels-push, channels-none}

@@ -1,11 +1,9 @@
 -- Meaning: sheets and lists of events written out, and what is so of them.
 use Prim.Native.Nat.{ℕ, zero, suc, _<_, _≤_}
-use mathlib.Core.Path.{_≡_}
 use mathlib.Core.List.{List, [], _∷_}
 use lib.ListN.{length}
 use Rattle.std.specs.shelf.Lists.{All}
 use Rattle.sheet.specs.declared.branch.Branch.{Branch}
-use Rattle.sheet.specs.Encode.{encode}
 use Rattle.sheet.specs.Model.{Sheet, ended, exchange}
 use Rattle.sheet.specs.Valid.{Valid}
 use Rattle.protocol.specs.Places.{Place}
