@@ -2,6 +2,7 @@
 use Prim.Native.Nat.{ℕ, zero, suc, _<_, _≤_}
 use mathlib.Core.List.{List, [], _∷_}
 use lib.ListN.{length}
+use Rattle.std.specs.declared.option.Option.the-variants.{Some, None}
 use Rattle.std.specs.shelf.Lists.{All}
 use Rattle.sheet.specs.declared.branch.Branch.{Branch}
 use Rattle.sheet.specs.Model.{Sheet, ended, exchange}
@@ -12,6 +13,7 @@ use Rattle.protocol.specs.Accepted.{Accepted}
 use Rattle.runs.specs.Events.{Event, own}
 use Rattle.runs.specs.Run.{Book, Rising, Channels, Beginning, timings, Timely, Run}
 use Rattle.runs.specs.Closing.{Completes}
+use Rattle.runs.specs.Laws.{Least, Could}
 
 abbrev pub branch : ℕ → ℕ → ℕ → ℕ → ℕ → Branch
 branch label next send receive resets = record { label = label; next = next; send = send; receive = receive; resets = resets }
@@ -58,6 +60,15 @@ neither = event 0 2 1 0 103 ∷ []
 abbrev pub late : List Event
 late = event 0 0 1 0 103 ∷ event 1 1 0 0 106 ∷ []
 
+-- OVEN, whose clock was reset when it took HEAT, sends HOT when its clock is at 19. Counted from the opening it would be
+-- at 24, and counted from MAIN's sending at 21: both would be in the row.
+abbrev pub early : List Event
+early = event 0 0 1 0 103 ∷ event 1 1 0 0 105 ∷ event 1 0 0 1 124 ∷ []
+
+-- MAIN sent HEAT and OVEN took it
+abbrev pub heating : List Event
+heating = event 0 0 1 0 103 ∷ event 1 1 0 0 105 ∷ []
+
 -- the third point alone
 pub record OnSomePath (sh : Sheet) (es : List Event) : Type 0 where
   pub known : All (λ e. e .role < length (sh .roles)) es
@@ -87,6 +98,10 @@ pub record OvenExamples : Type 0 where
   pub has-no-direction : NoRun neither × Rising 100 neither × Channels 8 neither
   -- the fourth alone
   pub is-late : NoRun late × Rising 100 late × Channels 8 late × OnSomePath oven late
+  pub is-early : NoRun early × Rising 100 early × Channels 8 early × OnSomePath oven early
+  -- after HEAT was taken at 105, OVEN can go on at once, by FAULT, and MAIN cannot whatever the tick
+  pub oven-next : Least (Could oven windows 100 8 heating 1) 105 4294967295 (Some 105)
+  pub main-next : Least (Could oven windows 100 8 heating 0) 105 4294967295 None
 
 -- roles A and B, one label, no time rows: A sends to B for ever
 abbrev pub ticker : Sheet
