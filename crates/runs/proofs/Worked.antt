@@ -19,20 +19,22 @@ use Rattle.sheet.specs.Valid.{Valid}
 use Rattle.sheet.proofs.Sound.{sound}
 use Rattle.sheet.proofs.Pieces.{model-encode}
 use Rattle.protocol.specs.Places.{Place, Has}
-use Rattle.protocol.specs.Actions.{Way, sends, receives, sending, receiving, turn}
+use Rattle.protocol.specs.Actions.{Way, sends, receives, Action, sending, receiving, turn}
 use Rattle.protocol.specs.Paths.{PathFrom, share}
-use Rattle.protocol.specs.Sets.{here, on, Start}
-use Rattle.protocol.specs.Accepted.{Accepted}
+use Rattle.protocol.specs.Sets.{here, on, Acts, Start, After, Followed}
+use Rattle.protocol.specs.Accepted.{HasPart, Accepted}
 use Rattle.std.proofs.shelf.Tests.{and-parts, ltb-true}
 use Rattle.protocol.proofs.Listed.{places, every, listed-from-has, place-at}
 use Rattle.protocol.proofs.Checked.{part-true}
-use Rattle.protocol.proofs.Turns.{nil-cons}
+use Rattle.protocol.proofs.Turns.{cons-head, nil-cons}
 use Rattle.runs.specs.Events.{Event, directionOf, mine, own, along, sent, taken, labels}
 use Rattle.runs.specs.Run.{Rising, InOrder, Channels, Beginning, timings, Timely, Run}
 use Rattle.runs.specs.Waiting.{waiting}
-use Rattle.runs.specs.Closing.{Whole, Completes}
+use Rattle.runs.specs.Steady.{Steady, AllSteady}
+use Rattle.runs.specs.Stands.{SetAfter}
+use Rattle.runs.specs.Closing.{Finished, Whole, Completes}
 use Rattle.runs.specs.Laws.{Least, Could}
-use Rattle.runs.specs.Examples.{branch, event, oven, windows, heated, falling, unsent, astray, neither, late, early, heating, TimelyOnSomePath, NoRun, OvenExamples, ticker, sendings, TickerExamples, relay, untold, ThirdPartyExamples}
+use Rattle.runs.specs.Examples.{branch, event, oven, windows, heated, falling, unsent, astray, neither, late, early, heating, TimelyOnSomePath, NoRun, OvenExamples, ticker, sendings, TickerExamples, relay, untold, declined, ThirdPartyExamples}
 use Rattle.runs.proofs.Own.{mine-other, own-push-same, own-unknown, along-direction, not-sending, more-hit, more-none}
 use Rattle.runs.proofs.Clocks.{Follows, beginning, timely}
 use Rattle.runs.proofs.Growth.{Fit, in-order-step, channels-now, channels-push, channels-none}
@@ -442,26 +444,113 @@ relay-accepted (suc zero) l = part-true relay 1 (2 ∷ 1 ∷ 0 ∷ []) ((0 ∷ [
 relay-accepted (suc (suc zero)) l = part-true relay 2 (2 ∷ 1 ∷ 0 ∷ []) ((0 ∷ 1 ∷ 2 ∷ []) ∷ (3 ∷ []) ∷ []) refl
 relay-accepted (suc (suc (suc m))) l = absurd (omega arith)
 
--- C's start set holds the end, and a state in which C acts
-untold-refused : Accepted untold → ⊥
+abbrev go-place : Place
+go-place = place-at 0 0 1 (branch 0 1 255 255 0)
+
+abbrev no-place : Place
+no-place = place-at 0 0 1 (branch 1 2 255 255 0)
+
+abbrev run-place : Place
+run-place = place-at 1 1 2 (branch 2 2 255 255 0)
+
+go-stands : Has untold go-place
+go-stands = record { branches = branch 0 1 255 255 0 ∷ branch 1 2 255 255 0 ∷ []; stands = refl; among = List·Memᴰ·head refl }
+
+no-stands : Has untold no-place
+no-stands = record { branches = branch 0 1 255 255 0 ∷ branch 1 2 255 255 0 ∷ []; stands = refl; among = List·Memᴰ·tail (List·Memᴰ·head refl) }
+
+-- C's start set holds a state in which C acts, and the end
+start-acts : Start untold 2 1
 unfolding turn
-untold-refused accepted =
-    end-reaches untold 2 2 refl (accepted 2 (omega arith) .sound [] tt .told 1 second (receiving running) (2, record { place = running; has = running-stands; at = refl; acts = refl; leads = refl }) 2 third)
+start-acts = on go-place go-stands (here refl) refl refl
+
+start-ends : Start untold 2 2
+unfolding turn
+start-ends = on no-place no-stands (here refl) refl refl
+
+runs-there : Acts untold 2 1 (receiving run-place)
+unfolding turn
+runs-there = (2, record { place = run-place; has = record { branches = branch 2 2 255 255 0 ∷ []; stands = refl; among = List·Memᴰ·head refl }; at = refl; acts = refl; leads = refl })
+
+untold-refused : Accepted untold → ⊥
+untold-refused accepted = end-reaches untold 2 2 refl (accepted 2 (omega arith) .sound [] tt .told 1 start-acts (receiving run-place) runs-there 2 start-ends)
+
+-- C has one action in the whole sheet, and it is no sending
+only-receives : (s : ℕ) (a : Action) → Acts untold 2 s a → a ≡ receiving run-place
+unfolding turn
+only-receives s a i = go (i .1 .place) (i .1 .acts) (listed-from-has untold (i .1 .place) (i .1 .has))
   where
-    going : Place
-    going = place-at 0 0 1 (branch 0 1 255 255 0)
+    go : (p : Place) → turn 2 p ≡ a ∷ [] → List·Memᴰ p (places untold) → a ≡ receiving run-place
+    go p t (List·Memᴰ·head q) = absurd (nil-cons (sym (ap (turn 2) q) ∙ t))
+    go p t (List·Memᴰ·tail (List·Memᴰ·head q)) = absurd (nil-cons (sym (ap (turn 2) q) ∙ t))
+    go p t (List·Memᴰ·tail (List·Memᴰ·tail (List·Memᴰ·head q))) = sym (cons-head (sym (ap (turn 2) q) ∙ t))
+    go p t (List·Memᴰ·tail (List·Memᴰ·tail (List·Memᴰ·tail i))) = elim i [ ]
 
-    running : Place
-    running = place-at 1 1 2 (branch 2 2 255 255 0)
+never-sends : {A : Type 0} (s : ℕ) (a : Action) → Acts untold 2 s a → a .way ≡ sends → A
+never-sends s a i w =
+    let q : receives ≡ sends = sym (ap (λ (x : Action). x .way) (only-receives s a i)) ∙ w in
+    let z : _≡_ {A = ℕ} 1 0 = ap directionOf q in
+    absurd (omega arith)
 
-    running-stands : Has untold running
-    running-stands = record { branches = branch 2 2 255 255 0 ∷ []; stands = refl; among = List·Memᴰ·head refl }
+part-steady : (sh : Sheet) (m : ℕ) → HasPart sh m → (ls : List ℕ) → Followed sh m (Start sh m) ls → Steady sh m (After sh m (Start sh m) ls)
+part-steady sh m part ls f =
+    let ok = part .sound ls f in
+    record { one-side = ok .one-side; same-offer = ok .same-offer; no-clash = ok .no-clash; told = λ s x a i w. ok .told s x a i }
 
-    second : Start untold 2 1
-    second = on going (record { branches = branch 0 1 255 255 0 ∷ branch 1 2 255 255 0 ∷ []; stands = refl; among = List·Memᴰ·head refl }) (here refl) refl refl
+untold-steady : AllSteady untold
+unfolding turn
+untold-steady zero l ls f = part-steady untold 0 (part-true untold 0 (0 ∷ []) ((0 ∷ []) ∷ (1 ∷ 2 ∷ []) ∷ (2 ∷ []) ∷ []) refl) ls f
+untold-steady (suc zero) l ls f = part-steady untold 1 (part-true untold 1 (1 ∷ 0 ∷ []) ((0 ∷ []) ∷ (1 ∷ []) ∷ (2 ∷ []) ∷ []) refl) ls f
+untold-steady (suc (suc zero)) l ls f = record {
+  one-side = λ s t x y a b i j. let q : a ≡ b = only-receives s a i ∙ sym (only-receives t b j) in (ap (λ (z : Action). z .way) q, ap (λ (z : Action). z .partner) q);
+  same-offer = λ s t x y a b i j w. never-sends s a i w;
+  no-clash = λ s t x y a b i j w k. ap (λ (z : Action). z .timing) (only-receives s a i ∙ sym (only-receives t b j));
+  told = λ s x a i w. never-sends s a i w;
+}
+untold-steady (suc (suc (suc m))) l ls f = absurd (omega arith)
 
-    third : Start untold 2 2
-    third = on (place-at 0 0 1 (branch 1 2 255 255 0)) (record { branches = branch 0 1 255 255 0 ∷ branch 1 2 255 255 0 ∷ []; stands = refl; among = List·Memᴰ·tail (List·Memᴰ·head refl) }) (here refl) refl refl
+declined-known : All (λ e. e .role < length (untold .roles)) declined
+declined-known = omega arith
+
+declined-follows : (m : ℕ) → Follows windows 0 (own m declined) (share m (no-place ∷ []))
+unfolding mine turn
+declined-follows zero = (record { direction = refl; partner = refl; label = refl }, inl refl, tt)
+declined-follows (suc zero) = (record { direction = refl; partner = refl; label = refl }, inl refl, tt)
+declined-follows (suc (suc m)) = rw (declined-none (suc (suc m)) (omega arith)) tt
+  where
+    declined-none : (m : ℕ) → 2 ≤ m → own m declined ≡ []
+    declined-none m l = own-unknown 2 m l declined (omega arith)
+
+declined-channels : Channels 8 declined
+unfolding mine along waiting
+declined-channels =
+    channels-add 8 (event 0 0 1 1 5 ∷ []) (event 1 1 0 1 6) receives (channels-add 8 [] (event 0 0 1 1 5) sends (channels-none 8) refl (omega arith)) refl (_, _, refl, refl)
+
+declined-run : Run untold windows 0 8 declined
+declined-run = run-from untold 0 8 declined (omega arith) declined-channels (on-some-path untold declined declined-known (no-place ∷ []) (no-stands, refl, tt) 0 declined-follows)
+
+declined-completes : Completes untold declined
+unfolding mine turn
+declined-completes = record { path = no-place ∷ []; leads = (no-stands, refl, tt); ends = refl; shares = shares }
+  where
+    shares : (m : ℕ) → m < length (untold .roles) → Whole (own m declined) (share m (no-place ∷ []))
+    shares zero l = record { begin = beginning windows 0 (own 0 declined) (share 0 (no-place ∷ [])) (declined-follows 0); all = refl }
+    shares (suc zero) l = record { begin = beginning windows 0 (own 1 declined) (share 1 (no-place ∷ [])) (declined-follows 1); all = refl }
+    shares (suc (suc zero)) l = record { begin = beginning windows 0 (own 2 declined) (share 2 (no-place ∷ [])) (declined-follows 2); all = refl }
+    shares (suc (suc (suc m))) l = absurd (omega arith)
+
+untold-waits : Finished untold 2 (SetAfter untold 2 declined) → ⊥
+unfolding mine
+untold-waits finished = finished 1 start-acts (receiving run-place) runs-there
 
 pub third-party-examples : ThirdPartyExamples
-third-party-examples = record { relay-valid = relay-valid; relay-accepted = relay-accepted; untold-valid = untold-valid; untold-refused = untold-refused }
+third-party-examples = record {
+  relay-valid = relay-valid;
+  relay-accepted = relay-accepted;
+  untold-valid = untold-valid;
+  untold-refused = untold-refused;
+  untold-steady = untold-steady;
+  untold-run = declined-run;
+  untold-completes = declined-completes;
+  untold-waits = untold-waits;
+}

@@ -12,7 +12,9 @@ use Rattle.protocol.specs.Paths.{PathFrom, share}
 use Rattle.protocol.specs.Accepted.{Accepted}
 use Rattle.runs.specs.Events.{Event, own}
 use Rattle.runs.specs.Run.{Book, Rising, Channels, Beginning, timings, Timely, Run}
-use Rattle.runs.specs.Closing.{Completes}
+use Rattle.runs.specs.Steady.{AllSteady}
+use Rattle.runs.specs.Stands.{SetAfter}
+use Rattle.runs.specs.Closing.{Finished, Completes}
 use Rattle.runs.specs.Laws.{Least, Could}
 
 abbrev pub branch : ℕ → ℕ → ℕ → ℕ → ℕ → Branch
@@ -140,6 +142,10 @@ untold = record {
   rows = 0;
 }
 
+-- A sends NO and B takes it
+abbrev pub declined : List Event
+declined = event 0 0 1 1 5 ∷ event 1 1 0 1 6 ∷ []
+
 -- The third party C of the relay learns from B which way A went, and the sheet is accepted; in the other sheet it may
 -- wait for ever, and the sheet is not.
 pub record ThirdPartyExamples : Type 0 where
@@ -147,3 +153,9 @@ pub record ThirdPartyExamples : Type 0 where
   pub relay-accepted : Accepted relay
   pub untold-valid : Valid untold
   pub untold-refused : Accepted untold → ⊥
+  -- Agreement still holds of it, for in no set in which a role sends does the fourth point fail. Closing does not: after
+  -- NO a path to an end has every role's events as its whole share, and yet C is not finished.
+  pub untold-steady : AllSteady untold
+  pub untold-run : Run untold windows 0 8 declined
+  pub untold-completes : Completes untold declined
+  pub untold-waits : Finished untold 2 (SetAfter untold 2 declined) → ⊥
