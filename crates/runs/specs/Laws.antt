@@ -67,12 +67,12 @@ abbrev pub Accepted-is-steady : Type 0
 Accepted-is-steady = (sh : Sheet) → Accepted sh → AllSteady sh
 
 -- no events are a run, and every beginning of a run is a run: of every sheet, accepted or not
-pub record Begins-with-runs (book : Book) (sh : Sheet) (opening depth : ℕ) : Type 0 where
+pub record RunsBegin (book : Book) (sh : Sheet) (opening depth : ℕ) : Type 0 where
   pub empty : Run sh book opening depth []
   pub front : (front back : List Event) → Run sh book opening depth (front ++ back) → Run sh book opening depth front
 
 abbrev pub Beginnings : Book → Type 0
-Beginnings book = (sh : Sheet) (opening depth : ℕ) → Begins-with-runs book sh opening depth
+Beginnings book = (sh : Sheet) (opening depth : ℕ) → RunsBegin book sh opening depth
 
 -- What one event more does to what waits, in a run of any sheet.
 pub record OneMore (es : List Event) (e : Event) : Type 0 where
@@ -92,12 +92,12 @@ pub record Waits (depth : ℕ) (es : List Event) (a b : ℕ) : Type 0 where
   pub few : length (waiting a b es) ≤ depth
   pub parts : labels (sent a b es) ≡ labels (taken a b es) ++ map (λ (x : Message). x .label) (waiting a b es)
 
-pub record ChannelsRead (book : Book) (sh : Sheet) (opening depth : ℕ) : Type 0 where
+pub record WaitsByEvents (book : Book) (sh : Sheet) (opening depth : ℕ) : Type 0 where
   pub waits : (es : List Event) → Run sh book opening depth es → (a b : ℕ) → Waits depth es a b
   pub one-more : (es : List Event) (e : Event) → Run sh book opening depth (es ++ (e ∷ [])) → OneMore es e
 
 abbrev pub Channels-read : Book → Type 0
-Channels-read book = (sh : Sheet) (opening depth : ℕ) → ChannelsRead book sh opening depth
+Channels-read book = (sh : Sheet) (opening depth : ℕ) → WaitsByEvents book sh opening depth
 
 -- some path to state s has role m's events as its whole share for it
 pub record PathTo (sh : Sheet) (m : ℕ) (es : List Event) (s : ℕ) : Type 0 where
