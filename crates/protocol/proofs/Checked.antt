@@ -1,23 +1,23 @@
 -- A test that finds out that a role has a part, for sheets that are written out: its sets are handed in as lists of
 -- states, each state behind one that it is reached from.
-use Prim.Native.Nat.{ℕ, zero, suc, _<_, _≤_}
+use Prim.Native.Nat.{ℕ, zero, suc, _<_}
 use mathlib.Core.Path.{_≡_, refl, sym, _∙_, ap, subst}
 use mathlib.Core.Bool.{Bool, true, false, _&&_, _||_, not}
-use mathlib.Core.List.{List, [], _∷_, _++_, map, List·Memᴰ, List·Memᴰ·head, List·Memᴰ·tail}
+use mathlib.Core.List.{List, [], _∷_, map, List·Memᴰ}
 use mathlib.Core.Logic.{_⊎_, inl, inr}
 use native.Mathlib.Omega.{arith}
 use lib.Dec.{eqb, leb}
 use lib.ListN.{length, getD, length-map}
 use Rattle.std.specs.Orderings.{Decides}
-use Rattle.std.proofs.shelf.Tests.{and-parts, and-from, or-cases, or-left, or-right, eq-eqb, eqb-true, leb-true, cases-bool, false≢true, both-ways}
+use Rattle.std.proofs.shelf.Tests.{and-parts, and-from, or-cases, or-left, eq-eqb, eqb-true, leb-true, false≢true}
 use Rattle.sheet.specs.Model.{Sheet}
 use Rattle.protocol.specs.Places.{Place, Has}
 use Rattle.protocol.specs.Actions.{Way, sends, receives, Timing, Action, turn}
-use Rattle.protocol.specs.Sets.{Silent, here, on, Step, Acts, Start, Led, Successor}
-use Rattle.protocol.specs.Sound.{OneSide, SameOffer, NoClash, Reaches, now, later, Told, Sound}
+use Rattle.protocol.specs.Sets.{Silent, here, on, Acts, Start, Led, Successor}
+use Rattle.protocol.specs.Sound.{Reaches, now, later, Told, Sound}
 use Rattle.protocol.specs.Accepted.{HasPart}
-use Rattle.protocol.proofs.Turns.{cons-head, nil-cons, Asked, asked, unasked, ask}
-use Rattle.protocol.proofs.Listed.{places, has-from-listed, listed-from-has, every, any, if-so, every-true, any-true, any-from, if-true, index-of, member-at}
+use Rattle.protocol.proofs.Turns.{nil-cons, Asked, asked, unasked, ask}
+use Rattle.protocol.proofs.Listed.{places, has-from-listed, listed-from-has, every, any, if-so, every-true, any-true, if-true, index-of, member-at}
 use Rattle.protocol.proofs.Found.{Of, Is, Found, found-part}
 
 abbrev pub inside : List ℕ → ℕ → Bool
@@ -152,9 +152,6 @@ every-asked : (m : ℕ) (p : Place) (a : Action) → turn m p ≡ a ∷ [] → (
 every-asked m p a t f q = and-parts (f a) true (sym (ap (every f) t) ∙ q) .0
 
 module _ (sh : Sheet) (m : ℕ) where
-  abbrev ps : List Place
-  ps = places sh
-
   led-true : (X : List ℕ) (l s : ℕ) → led m (places sh) X l s ≡ true → Led sh m (In X) l s
   led-true X l s q =
       let r = any-true (λ p. eqb (p .branch .next) s && (inside X (p .state) && any (labelled l) (turn m p))) (places sh) q in
@@ -184,9 +181,6 @@ module _ (sh : Sheet) (m : ℕ) where
   closure-out base Base is [] earlier before q s i = absurd (false≢true i)
   closure-out base Base is (x ∷ X) earlier before q s i = go (λ f. closure-out base Base is X (x ∷ earlier) f (parts .1) s) (or-cases (eqb x s) (inside X s) i)
     where
-      edge : Place → Bool
-      edge p = eqb (p .branch .next) x && (inside earlier (p .state) && idle (turn m p))
-
       parts : ((base x || any (λ p. eqb (p .branch .next) x && (inside earlier (p .state) && idle (turn m p))) (places sh)) ≡ true) × (built m (places sh) base (x ∷ earlier) X ≡ true)
       parts = and-parts (base x || any (λ p. eqb (p .branch .next) x && (inside earlier (p .state) && idle (turn m p))) (places sh)) (built m (places sh) base (x ∷ earlier) X) q
 
@@ -223,7 +217,6 @@ module _ (sh : Sheet) (m : ℕ) where
 
   follows-true : (X : List ℕ) (l : ℕ) (Y : List ℕ) → follows m (places sh) X l Y ≡ true → (s : ℕ) → Decides (inside Y s) (Successor sh m (In X) l s)
   follows-true X l Y q s =
-      let cover = every (λ p. if-so (inside X (p .state) && any (labelled l) (turn m p)) (inside Y (p .branch .next))) (places sh) in
       let a = and-parts (every (λ p. if-so (inside X (p .state) && any (labelled l) (turn m p)) (inside Y (p .branch .next))) (places sh)) (spreads m (places sh) Y && built m (places sh) (led m (places sh) X l) [] Y) q in
       let b = and-parts (spreads m (places sh) Y) (built m (places sh) (led m (places sh) X l) [] Y) (a .1) in (
         closure-out (led m (places sh) X l) (Led sh m (In X) l) (led-true X l) Y [] (λ t i. absurd (false≢true i)) (b .1) s,
@@ -363,9 +356,6 @@ part-true sh m reach [] q = absurd (false≢true q)
 part-true sh m reach (X ∷ sets) q =
     found-part sh m (map inside (X ∷ sets)) found (rw (length-map (X ∷ sets) inside) (leb-true (length (X ∷ sets)) 32 (c .0)))
   where
-    all : List (List ℕ)
-    all = X ∷ sets
-
     a : (starts m (places sh) X ≡ true) × ((leading m (places sh) [] reach && (leb (length (X ∷ sets)) 32 && every (good m (places sh) reach (X ∷ sets)) (X ∷ sets))) ≡ true)
     a = and-parts (starts m (places sh) X) (leading m (places sh) [] reach && (leb (length (X ∷ sets)) 32 && every (good m (places sh) reach (X ∷ sets)) (X ∷ sets))) q
 

@@ -1,11 +1,11 @@
 -- Sets of states that hold the same states have the same closures, successors and soundness.
 use Prim.Native.Nat.{ℕ}
-use mathlib.Core.Path.{_≡_, refl, sym, _∙_}
+use mathlib.Core.Path.{_≡_, refl}
 use mathlib.Core.List.{List, [], _∷_, _++_}
 use Rattle.sheet.specs.Model.{Sheet}
 use Rattle.protocol.specs.Places.{Place, Has}
-use Rattle.protocol.specs.Actions.{Action, turn}
-use Rattle.protocol.specs.Sets.{Silent, here, on, Step, Acts, Start, Led, Successor, After, Followed}
+use Rattle.protocol.specs.Actions.{turn}
+use Rattle.protocol.specs.Sets.{Silent, here, on, Led, Successor, After, Followed}
 use Rattle.protocol.specs.Sound.{Sound}
 
 abbrev pub Within : (ℕ → Type 0) → (ℕ → Type 0) → Type 0

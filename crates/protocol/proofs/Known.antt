@@ -1,6 +1,6 @@
 -- What validity says of the places of a sheet.
 use Prim.Native.Nat.{ℕ, zero, suc, _<_, _≤_}
-use mathlib.Core.Path.{_≡_, refl, sym, _∙_, ap, subst}
+use mathlib.Core.Path.{_≡_, sym, _∙_, ap, subst}
 use mathlib.Core.List.{List, [], _∷_, List·Memᴰ, List·Memᴰ·head, List·Memᴰ·tail}
 use mathlib.Core.Logic.{_≢_, _⊎_, inl, inr}
 use native.Mathlib.Omega.{arith}
@@ -10,11 +10,11 @@ use Rattle.std.proofs.shelf.Lists.{getD-past}
 use Rattle.std.proofs.shelf.Elements.{all-getD}
 use Rattle.std.proofs.shelf.Tests.{cases-lt, cases-order}
 use Rattle.sheet.specs.declared.branch.Branch.{Branch}
-use Rattle.sheet.specs.Model.{Sheet, State, ended, exchange}
+use Rattle.sheet.specs.Model.{Sheet, ended, exchange}
 use Rattle.sheet.specs.Valid.{GoodBranch, blank, Rising, GoodExchange, GoodState, Valid}
 use Rattle.protocol.specs.Places.{Place, Has}
-use Rattle.protocol.specs.Actions.{Action, turn, sends, receives, sending, receiving}
-use Rattle.protocol.specs.Sets.{Acts, Step}
+use Rattle.protocol.specs.Actions.{Action, turn, sending, receiving}
+use Rattle.protocol.specs.Sets.{Acts}
 use Rattle.protocol.proofs.Turns.{Side, as-sender, as-receiver, aside, side, nil-cons, cons-head, asked-label}
 
 all-member : {X : Type 0} (P : X → Type 0) (xs : List X) (x : X) → All P xs → List·Memᴰ x xs → P x

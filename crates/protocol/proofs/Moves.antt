@@ -1,17 +1,16 @@
 -- The part is the projection.
 use Prim.Native.Nat.{ℕ}
 use mathlib.Core.Path.{_≡_, refl, sym, _∙_, ap, ap₂, subst}
-use mathlib.Core.List.{List, [], _∷_, _++_, map, append-nil, append-assoc, map-append}
-use mathlib.Core.Logic.{_↔_, _⊎_, inl, inr}
+use mathlib.Core.List.{List, [], _∷_, _++_, append-nil}
 use Rattle.sheet.specs.Model.{Sheet}
 use Rattle.sheet.specs.Valid.{Valid}
-use Rattle.protocol.specs.Places.{Place, Has}
-use Rattle.protocol.specs.Actions.{Way, sends, receives, Action, turn}
+use Rattle.protocol.specs.Places.{Place}
+use Rattle.protocol.specs.Actions.{Way, sends, receives, Action}
 use Rattle.protocol.specs.Paths.{PathFrom, endOf, share}
-use Rattle.protocol.specs.Sets.{Silent, here, on, Step, Acts, Start, Led, Successor, After, Followed}
+use Rattle.protocol.specs.Sets.{here, Step, Acts, Start, Led, Successor, After, Followed}
 use Rattle.protocol.specs.Sound.{OneSide, SameOffer, NoClash}
 use Rattle.protocol.specs.Accepted.{HasPart}
-use Rattle.protocol.specs.Projection.{Move, move, moves, labelOf, labels, Does, Played, BeginsShare, LeadsTo, OneSided, Projects, LabelsSuffice, LabelDetermines, Part-is-projection, Labels-suffice, Parts-project}
+use Rattle.protocol.specs.Projection.{Move, move, moves, labelOf, labels, Does, Played, BeginsShare, LeadsTo, OneSided, LabelDetermines, Part-is-projection, Labels-suffice, Parts-project}
 use Rattle.protocol.proofs.Turns.{cons-head, cons-tail, nil-cons, Asked, asked, unasked, ask, same-action}
 use Rattle.protocol.proofs.Known.{same-step}
 use Rattle.protocol.proofs.Closures.{Closed, silent-closed}

@@ -6,7 +6,7 @@ use Rattle.sheet.specs.Model.{Sheet}
 use Rattle.protocol.specs.Places.{Place, Has}
 use Rattle.protocol.specs.Actions.{Action, turn}
 use Rattle.protocol.specs.Paths.{PathFrom, endOf, share}
-use Rattle.protocol.specs.Sets.{Silent, here, on, Step, Led}
+use Rattle.protocol.specs.Sets.{Silent, here, on, Led}
 use Rattle.protocol.specs.Projection.{Move, move, moves}
 
 pub path-append : (sh : Sheet) (s : ℕ) (xs ys : List Place) → PathFrom sh s xs → PathFrom sh (endOf s xs) ys → PathFrom sh s (xs ++ ys)

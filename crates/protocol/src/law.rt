@@ -1,5 +1,6 @@
 //! The law that ties a role's part to the paths of the sheet.
 
+ghost use mathlib.Core.Path.{_≡_};
 ghost use Rattle.protocol.specs.Projection.{Part-is-projection, Labels-suffice, Parts-project};
 
 /// The part is the projection. For every role whose sets keep it on one side with one partner, moves
@@ -11,6 +12,7 @@ pub fn projection_stands() -> u8
     ensures projects { λ _. ⌜ Part-is-projection ⌝ }
     ensures suffice { λ _. ⌜ Labels-suffice ⌝ }
     ensures parts { λ _. ⌜ Parts-project ⌝ }
+    ensures edition { λ r. ⌜ r ≡ 1 ⌝ }
 {
     1
 }

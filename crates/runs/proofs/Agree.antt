@@ -1,34 +1,32 @@
 -- Monitor and sheet agree.
-use Prim.Native.Nat.{ℕ, suc, _+_, _-_, _≤_, _<_}
-use mathlib.Core.Path.{_≡_, refl, sym, _∙_, ap, ap₂, subst}
-use mathlib.Core.Bool.{Bool, true, cond}
-use mathlib.Core.List.{List, [], _∷_, _++_, append-nil}
-use mathlib.Core.Logic.{_≢_, _↔_, _⊎_, inl, inr}
+use Prim.Native.Nat.{ℕ, _-_, _≤_, _<_}
+use mathlib.Core.Path.{_≡_, refl, sym, _∙_, ap, subst}
+use mathlib.Core.Bool.{cond}
+use mathlib.Core.List.{List, [], _∷_, _++_}
+use mathlib.Core.Logic.{_↔_, _⊎_, inl, inr}
 use native.Mathlib.Omega.{arith}
 use lib.ListN.{length}
 use Rattle.std.specs.Orderings.{Decides}
-use Rattle.std.specs.shelf.Lists.{All}
 use Rattle.std.proofs.shelf.Elements.{all-push}
 use Rattle.std.proofs.shelf.Lists.{map-push}
 use Rattle.std.proofs.shelf.Tests.{cases-eq}
 use Rattle.sheet.specs.Model.{Sheet}
 use Rattle.sheet.specs.Valid.{Valid}
-use Rattle.protocol.specs.Actions.{Way, sends, receives, Action}
+use Rattle.protocol.specs.Actions.{Way, sends, receives}
 use Rattle.protocol.specs.Paths.{share}
 use Rattle.protocol.specs.Sets.{here, Start, Successor, After}
 use Rattle.protocol.proofs.Known.{action-known}
 use Rattle.protocol.proofs.Closures.{Within, silent-closed, successor-within, after-push}
 use Rattle.runs.specs.Events.{Event, directionOf, own, labelOf, labels}
-use Rattle.runs.specs.Run.{Book, Admits, Fits, Rising, InOrder, Channels, timings, lastReset, Run}
-use Rattle.runs.specs.Waiting.{Message, waiting}
+use Rattle.runs.specs.Run.{Book, Admits, InOrder, Channels, Run}
+use Rattle.runs.specs.Waiting.{waiting}
 use Rattle.runs.specs.Steady.{AllSteady}
-use Rattle.runs.specs.Monitor.{Monitor, InSet, Opened, Able, Room, Passes, channelAfter, Changes, Reached, opened, passed}
-use Rattle.runs.specs.Stands.{lastTick, SetAfter, Stands}
+use Rattle.runs.specs.Monitor.{Monitor, InSet, Opened, Room, Passes, Changes, Reached, opened, passed}
+use Rattle.runs.specs.Stands.{SetAfter, Stands}
 use Rattle.runs.specs.Closing.{Finished}
 use Rattle.runs.specs.Laws.{Agreement}
-use Rattle.runs.proofs.Own.{Front, own-push-same, own-push-other}
-use Rattle.runs.proofs.Order.{AlwaysFifo}
-use Rattle.runs.proofs.Clocks.{Follows, beginning, timely, follows}
+use Rattle.runs.proofs.Own.{own-push-same, own-push-other}
+use Rattle.runs.proofs.Clocks.{beginning, timely, follows}
 use Rattle.runs.proofs.Judging.{able-within, steady-all, Judged, Accepts, end-clock, More, accepts-push, Fewer, accepts-pop, same-clock, OnPath, path-accepts}
 use Rattle.runs.proofs.Rebuild.{Goal, rebuild}
 use Rattle.runs.proofs.Growth.{rising-push, rising-last, last-tick-push, all-last, Fit, waiting-step, in-order-step, fit-from, after-like, channels-now, channels-push, channels-none}
@@ -133,7 +131,6 @@ module _ (sh : Sheet) (book : Book) (valid : Valid sh) (steady : AllSteady sh) (
 
         set-role : (s : ℕ) → Decides (τ .set (e .role) s) (SetAfter sh (e .role) (es ++ (e ∷ [])) s)
         set-role s =
-            let m : ℕ = e .role in
             let X : ℕ → Type 0 = SetAfter sh (e .role) es in
             let p : SetAfter sh (e .role) (es ++ (e ∷ [])) ≡ Successor sh (e .role) X (e .label) =
             ap (λ (z : List Event). After sh (e .role) (Start sh (e .role)) (labels z)) (own-push-same (e .role) es e refl)

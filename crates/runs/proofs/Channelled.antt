@@ -1,5 +1,5 @@
 -- What waits in the channels after a run, and what one event more does to it.
-use Prim.Native.Nat.{ℕ, zero, suc, _+_, _-_, _≤_, _<_}
+use Prim.Native.Nat.{ℕ, _-_, _≤_}
 use mathlib.Core.Path.{_≡_, refl, sym, _∙_, ap, subst}
 use mathlib.Core.Bool.{Bool, true, false, cond, _&&_}
 use mathlib.Core.List.{List, [], _∷_, _++_, map}
@@ -8,26 +8,23 @@ use native.Mathlib.Omega.{arith}
 use lib.Dec.{eqb}
 use lib.ListN.{length, drop}
 use Rattle.std.specs.shelf.Lists.{All}
-use Rattle.std.proofs.shelf.Elements.{all-drop, all-map, all-weaker, all-append}
-use Rattle.std.proofs.shelf.Tests.{cases-bool}
+use Rattle.std.proofs.shelf.Elements.{all-drop, all-map, all-append}
 use Rattle.sheet.specs.Model.{Sheet}
-use Rattle.protocol.specs.Places.{Place}
 use Rattle.protocol.specs.Actions.{Way, sends, receives, Action}
 use Rattle.protocol.specs.Paths.{share}
-use Rattle.protocol.proofs.Turns.{cons-head}
 use Rattle.runs.specs.Events.{Event, directionOf, mine, own, along, exchanged, sent, taken}
-use Rattle.runs.specs.Run.{Book, Rising, Fits, Beginning, InOrder, Run}
+use Rattle.runs.specs.Run.{Book, Rising, Beginning, InOrder, Run}
 use Rattle.runs.specs.Waiting.{Message, message, waiting, oldestTick, underWay}
 use Rattle.runs.specs.Monitor.{channelAfter}
 use Rattle.runs.specs.Stands.{lastTick}
-use Rattle.runs.specs.Laws.{OneMore, Waits, ChannelsRead, Channels-read}
+use Rattle.runs.specs.Laws.{OneMore, Waits, Channels-read}
 use Rattle.runs.proofs.Own.{own-push-same}
 use Rattle.runs.proofs.Growth.{rising-last, Touches, longer, shorter, untouched, touches, after-longer, after-shorter, waiting-length, waiting-labels, waiting-step, Fit, fit-from, channels-now}
 use Rattle.runs.proofs.Agree.{direction-small}
 use Rattle.runs.proofs.Fronts.{run-front}
 
 -- no event is later than the last
-rising-late : (o : ℕ) (es : List Event) → Rising o es → (o ≤ lastTick o es) × All (λ e. e .tick ≤ lastTick o es) es
+pub rising-late : (o : ℕ) (es : List Event) → Rising o es → (o ≤ lastTick o es) × All (λ e. e .tick ≤ lastTick o es) es
 rising-late o [] r = (omega arith, tt)
 rising-late o (e ∷ es) r =
     let x = rising-late (e .tick) es (r .1) in
@@ -35,7 +32,7 @@ rising-late o (e ∷ es) r =
     (omega arith, (x .0, x .1))
 
 -- what holds of all events holds of those that are kept
-all-own : (P : Event → Type 0) (m : ℕ) (es : List Event) → All P es → All P (own m es)
+pub all-own : (P : Event → Type 0) (m : ℕ) (es : List Event) → All P es → All P (own m es)
 unfolding mine
 all-own P m [] k = tt
 all-own P m (e ∷ es) k = all-append P (mine m e) (own m es) (kept (eqb m (e .role))) (all-own P m es (k .1))

@@ -1,11 +1,10 @@
 -- The third and the fourth point of a run for one role, read together from the left.
 use Prim.Native.Nat.{ℕ, suc, _-_}
-use mathlib.Core.Path.{_≡_, refl, sym, _∙_, ap, subst₂}
+use mathlib.Core.Path.{refl, ap, subst₂}
 use mathlib.Core.Bool.{cond}
-use mathlib.Core.List.{List, [], _∷_, _++_}
+use mathlib.Core.List.{List, [], _∷_}
 use native.Mathlib.Nat.{suc-inj}
 use native.Mathlib.Omega.{arith}
-use lib.ListN.{length}
 use Rattle.protocol.specs.Actions.{Timing, Action}
 use Rattle.protocol.proofs.Turns.{cons-head, cons-tail, nil-cons}
 use Rattle.runs.specs.Events.{Event}

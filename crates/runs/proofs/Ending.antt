@@ -1,8 +1,8 @@
 -- Closing: all roles are finished exactly when the events are all of a path to an end.
-use Prim.Native.Nat.{ℕ, suc, _<_, _≤_}
+use Prim.Native.Nat.{ℕ, _<_, _≤_}
 use mathlib.Core.Path.{_≡_, refl, sym, _∙_, ap, subst}
-use mathlib.Core.List.{List, [], _∷_, _++_, List·Memᴰ, List·Memᴰ·head}
-use mathlib.Core.Logic.{_↔_, _⊎_, inl, inr}
+use mathlib.Core.List.{List, [], _∷_, List·Memᴰ·head}
+use mathlib.Core.Logic.{_⊎_, inl, inr}
 use native.Mathlib.Omega.{arith}
 use lib.ListN.{length, getD}
 use Rattle.std.proofs.shelf.Lists.{getD-past}
@@ -12,19 +12,17 @@ use Rattle.sheet.specs.declared.branch.Branch.{Branch}
 use Rattle.sheet.specs.Model.{Sheet, State, ended, exchange}
 use Rattle.sheet.specs.Valid.{GoodExchange, GoodState, Valid}
 use Rattle.protocol.specs.Places.{Place, Has}
-use Rattle.protocol.specs.Actions.{Action, sending, turn}
-use Rattle.protocol.specs.Paths.{PathFrom, endOf, share}
-use Rattle.protocol.specs.Sets.{Acts, Start, After}
+use Rattle.protocol.specs.Actions.{Action, sending}
+use Rattle.protocol.specs.Paths.{endOf, share}
+use Rattle.protocol.specs.Sets.{Acts}
 use Rattle.protocol.specs.Sound.{Reaches, now, later, Sound}
-use Rattle.protocol.specs.Accepted.{Accepted}
 use Rattle.protocol.proofs.Turns.{turn-sender}
-use Rattle.protocol.proofs.Known.{action-known}
-use Rattle.runs.specs.Events.{Event, own, labels}
-use Rattle.runs.specs.Run.{Book, Run}
-use Rattle.runs.specs.Monitor.{Monitor, InSet}
-use Rattle.runs.specs.Stands.{SetAfter, Stands}
-use Rattle.runs.specs.Closing.{Finished, Whole, Completes}
-use Rattle.runs.specs.Laws.{PathTo, Closing}
+use Rattle.runs.specs.Events.{own, labels}
+use Rattle.runs.specs.Run.{Book}
+use Rattle.runs.specs.Monitor.{InSet}
+use Rattle.runs.specs.Stands.{SetAfter}
+use Rattle.runs.specs.Closing.{Finished, Completes}
+use Rattle.runs.specs.Laws.{Closing}
 use Rattle.runs.proofs.Clocks.{beginning}
 use Rattle.runs.proofs.Judging.{accepted-steady}
 use Rattle.runs.proofs.Rebuild.{Goal}

@@ -1,18 +1,17 @@
 -- The least tick at which an event passes is the least at which it makes a run.
-use Prim.Native.Nat.{ℕ, _≤_, _<_}
-use mathlib.Core.Path.{_≡_, refl, sym, _∙_, subst}
-use mathlib.Core.List.{List, [], _∷_, _++_}
-use mathlib.Core.Logic.{_↔_}
+use Prim.Native.Nat.{ℕ, _≤_}
+use mathlib.Core.Path.{sym, subst}
+use mathlib.Core.List.{List}
 use Rattle.std.specs.declared.option.Option.{Option}
 use Rattle.std.specs.declared.option.Option.the-variants.{Some, None}
 use Rattle.sheet.specs.Model.{Sheet}
 use Rattle.sheet.specs.Valid.{Valid}
 use Rattle.runs.specs.Events.{Event}
-use Rattle.runs.specs.Run.{Book, Run}
+use Rattle.runs.specs.Run.{Book}
 use Rattle.runs.specs.Steady.{AllSteady}
-use Rattle.runs.specs.Monitor.{Monitor, Passes}
+use Rattle.runs.specs.Monitor.{Monitor}
 use Rattle.runs.specs.Stands.{Stands}
-use Rattle.runs.specs.Laws.{Least, CouldPass, Could, Foresees, Foresight, Keeps, Keeping}
+use Rattle.runs.specs.Laws.{Least, CouldPass, Could, Foresees, Foresight, Keeping}
 use Rattle.runs.proofs.Agree.{stands-agrees, reached-stands, opened-stands, passes-stands}
 use Rattle.runs.proofs.Growth.{rising-last}
 

@@ -1,9 +1,9 @@
 -- One event more: ticks, roles, channels and what waits in them.
-use Prim.Native.Nat.{ℕ, suc, _+_, _-_, _≤_, _<_}
+use Prim.Native.Nat.{ℕ, _+_, _-_, _≤_, _<_}
 use mathlib.Core.Path.{_≡_, refl, sym, _∙_, ap, ap₂, subst}
-use mathlib.Core.Bool.{Bool, true, false, cond, _&&_}
+use mathlib.Core.Bool.{false, _&&_}
 use mathlib.Core.List.{List, [], _∷_, _++_, map, append-nil, append-assoc, append-cancel-left, map-append}
-use mathlib.Core.Logic.{_≢_, _⊎_, inl, inr}
+use mathlib.Core.Logic.{_⊎_, inl, inr}
 use native.Mathlib.Omega.{arith}
 use lib.Dec.{eqb}
 use lib.ListN.{length, drop, length-append, length-map}
@@ -12,8 +12,8 @@ use Rattle.std.proofs.shelf.Lists.{drop-at, drop-drop, drop-append-le, drop-map
 use Rattle.std.proofs.shelf.Tests.{cond-true, cond-false, eq-eqb, ne-eqb, cases-eq, and-from, and-left, and-right}
 use Rattle.protocol.specs.Actions.{Way, sends, receives}
 use Rattle.protocol.proofs.Turns.{cons-head, cons-tail, nil-cons}
-use Rattle.runs.specs.Events.{Event, directionOf, own, along, exchanged, sent, taken, labelOf, labels}
-use Rattle.runs.specs.Run.{Rising, Begins, InOrder, Channels}
+use Rattle.runs.specs.Events.{Event, directionOf, sent, taken, labelOf, labels}
+use Rattle.runs.specs.Run.{Rising, InOrder, Channels}
 use Rattle.runs.specs.Waiting.{Message, message, waiting}
 use Rattle.runs.specs.Monitor.{channelAfter}
 use Rattle.runs.specs.Stands.{lastTick}

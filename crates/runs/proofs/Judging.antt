@@ -1,6 +1,6 @@
 -- One role's events: judged one after the other from its set, and what a path makes of them.
 use Prim.Native.Nat.{ℕ, _-_, _<_, _≤_}
-use mathlib.Core.Path.{_≡_, refl, sym, _∙_, ap, subst}
+use mathlib.Core.Path.{_≡_, refl, sym, _∙_, subst}
 use mathlib.Core.Bool.{Bool, cond}
 use mathlib.Core.List.{List, [], _∷_, _++_}
 use mathlib.Core.Logic.{_⊎_, inl, inr}
@@ -9,10 +9,10 @@ use lib.ListN.{length}
 use Rattle.std.proofs.shelf.Tests.{cases-lt}
 use Rattle.sheet.specs.Model.{Sheet}
 use Rattle.sheet.specs.Valid.{Valid}
-use Rattle.protocol.specs.Places.{Place, Has}
-use Rattle.protocol.specs.Actions.{Action, turn}
-use Rattle.protocol.specs.Paths.{PathFrom, endOf, share}
-use Rattle.protocol.specs.Sets.{Silent, here, on, Step, Acts, Start, Led, Successor, After, Followed}
+use Rattle.protocol.specs.Places.{Place}
+use Rattle.protocol.specs.Actions.{Action}
+use Rattle.protocol.specs.Paths.{PathFrom, share}
+use Rattle.protocol.specs.Sets.{here, Acts, Start, Led, Successor, After, Followed}
 use Rattle.protocol.specs.Accepted.{Accepted}
 use Rattle.protocol.proofs.Turns.{Asked, asked, unasked, ask}
 use Rattle.protocol.proofs.Known.{action-known}

@@ -11,3 +11,6 @@ pub mod Channelled
 pub mod Shares
 pub mod Ending
 pub mod Worked
+pub mod Ranges
+pub mod Exact
+pub mod Forecast

@@ -1,13 +1,12 @@
 -- Channels stay in order when a sender's oldest sending is taken away, and with it the receiver's oldest taking.
 use Prim.Native.Nat.{ℕ}
-use mathlib.Core.Path.{_≡_, refl, sym, _∙_, ap, subst, subst₂}
+use mathlib.Core.Path.{_≡_, refl, sym, _∙_, ap, subst₂}
 use mathlib.Core.List.{List, [], _∷_, _++_}
 use mathlib.Core.Logic.{_≢_, _⊎_, inl, inr}
-use native.Mathlib.Omega.{arith}
 use Rattle.std.proofs.shelf.Tests.{cases-eq}
 use Rattle.protocol.specs.Actions.{sends, receives}
 use Rattle.protocol.proofs.Turns.{cons-head, cons-tail, nil-cons}
-use Rattle.runs.specs.Events.{Event, directionOf, own, along, exchanged, sent, taken, labels}
+use Rattle.runs.specs.Events.{Event, directionOf, own, exchanged, sent, taken, labels}
 use Rattle.runs.specs.Run.{Begins}
 use Rattle.runs.proofs.Own.{Front, Less, Without, own-append, along-partner, not-taking, not-sending, less-none, less-other, less-hit, more-hit, more-none}
 

@@ -1,8 +1,8 @@
 -- A role's own events, what it exchanges with a partner, and a list without a role's first event.
 use Prim.Native.Nat.{ℕ, suc, _≤_, _<_}
 use mathlib.Core.Path.{_≡_, refl, sym, _∙_, ap, ap₂, subst}
-use mathlib.Core.Bool.{Bool, true, false, cond, _&&_}
-use mathlib.Core.List.{List, [], _∷_, _++_, map, append-nil, append-assoc}
+use mathlib.Core.Bool.{_&&_}
+use mathlib.Core.List.{List, [], _∷_, _++_, append-nil, append-assoc}
 use mathlib.Core.Logic.{_≢_, _⊎_, inl, inr}
 use native.Mathlib.Omega.{arith}
 use lib.ListN.{length}
@@ -11,7 +11,7 @@ use Rattle.std.specs.shelf.Lists.{All}
 use Rattle.std.proofs.shelf.Tests.{cond-true, cond-false, eq-eqb, ne-eqb, cases-eq, and-from, and-left, and-right}
 use Rattle.protocol.specs.Actions.{Way, sends, receives}
 use Rattle.protocol.proofs.Turns.{cons-head, cons-tail, nil-cons}
-use Rattle.runs.specs.Events.{Event, directionOf, mine, own, along, exchanged, sent, taken, labels}
+use Rattle.runs.specs.Events.{Event, directionOf, mine, own, along, exchanged}
 
 pub list-cases : {A : Type 0} (xs : List A) → (xs ≡ []) ⊎ ((x : A) × (rest : List A) × (xs ≡ x ∷ rest))
 list-cases [] = inl refl

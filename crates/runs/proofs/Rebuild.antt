@@ -1,32 +1,31 @@
 -- From judged events to a path: the path is built place by place, from the first state on.
-use Prim.Native.Nat.{ℕ, zero, suc, _-_, _≤_, _<_}
-use mathlib.Core.Path.{_≡_, refl, sym, _∙_, ap, subst, subst₂}
-use mathlib.Core.Bool.{Bool, cond}
+use Prim.Native.Nat.{ℕ, zero, suc, _-_, _≤_}
+use mathlib.Core.Path.{_≡_, refl, sym, _∙_, ap, subst}
+use mathlib.Core.Bool.{cond}
 use mathlib.Core.List.{List, [], _∷_, _++_, append-nil}
 use mathlib.Core.Logic.{_≢_, _⊎_, inl, inr}
 use native.Mathlib.Omega.{arith}
 use lib.Dec.{eqb}
 use lib.ListN.{length}
-use Rattle.std.proofs.shelf.Tests.{cases-eq, cond-true, cond-false, eq-eqb, ne-eqb}
+use Rattle.std.proofs.shelf.Tests.{cond-true, cond-false, eq-eqb, ne-eqb}
 use Rattle.sheet.specs.Model.{Sheet}
 use Rattle.sheet.specs.Valid.{Valid}
 use Rattle.protocol.specs.Places.{Place, Has}
 use Rattle.protocol.specs.Actions.{Way, sends, receives, Action, sending, receiving, turn}
 use Rattle.protocol.specs.Paths.{PathFrom, endOf, share}
-use Rattle.protocol.specs.Sets.{Silent, here, on, Step, Acts, Led, Successor, After, Followed}
+use Rattle.protocol.specs.Sets.{here, Acts, Led, Successor, After}
 use Rattle.protocol.specs.Sound.{Reaches, now, later}
-use Rattle.protocol.proofs.Turns.{cons-head, nil-cons, turn-sender, turn-receiver, Side, as-sender, as-receiver, aside, side, Asked, asked, unasked, ask, asked-label}
+use Rattle.protocol.proofs.Turns.{nil-cons, turn-sender, turn-receiver, Side, as-sender, as-receiver, aside, side, Asked, asked, unasked, ask, asked-label}
 use Rattle.protocol.proofs.Known.{same-exchange, apart}
 use Rattle.protocol.proofs.Closures.{Closed, silent-closed}
 use Rattle.runs.specs.Events.{Event, directionOf, own, labels}
 use Rattle.runs.specs.Run.{Book, Admits, Fits}
-use Rattle.runs.specs.Steady.{Steady}
 use Rattle.runs.specs.Monitor.{Able}
 use Rattle.runs.specs.Closing.{Finished}
 use Rattle.runs.proofs.Own.{list-cases, mine-same, along-yes, Without, without}
 use Rattle.runs.proofs.Order.{Fifo, AlwaysFifo, labels-meet, always-one, always-two, first-sends}
 use Rattle.runs.proofs.Clocks.{Follows}
-use Rattle.runs.proofs.Judging.{SteadyFrom, steady-next, same-able, able-led, Judged, Accepts, judged-led}
+use Rattle.runs.proofs.Judging.{SteadyFrom, steady-next, same-able, able-led, Judged, Accepts}
 
 -- a function changed at one place
 unfoldable put : ℕ → ℕ → (ℕ → ℕ) → ℕ → ℕ

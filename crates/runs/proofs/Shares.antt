@@ -1,22 +1,20 @@
 -- A role's set after its events, by paths.
-use Prim.Native.Nat.{ℕ, suc, _<_}
-use mathlib.Core.Path.{_≡_, refl, sym, _∙_, ap, ap₂, subst}
-use mathlib.Core.List.{List, [], _∷_, _++_}
-use mathlib.Core.Logic.{_↔_}
+use Prim.Native.Nat.{ℕ, suc}
+use mathlib.Core.Path.{_≡_, refl, sym, ap, ap₂, subst}
+use mathlib.Core.List.{List, [], _∷_}
 use lib.ListN.{length}
 use native.Mathlib.Omega.{arith}
 use native.Mathlib.Nat.{suc-inj}
 use Rattle.sheet.specs.Model.{Sheet}
-use Rattle.sheet.specs.Valid.{Valid}
 use Rattle.protocol.specs.Actions.{Action}
-use Rattle.protocol.specs.Paths.{PathFrom, endOf, share}
+use Rattle.protocol.specs.Paths.{endOf, share}
 use Rattle.protocol.specs.Sets.{Start, Successor, After, Followed}
-use Rattle.protocol.specs.Projection.{Move, move, moves, Does, Played, LeadsTo, OneSided}
+use Rattle.protocol.specs.Projection.{Move, move, moves, Played, LeadsTo, OneSided}
 use Rattle.protocol.specs.Projection as projection
 use Rattle.protocol.proofs.Turns.{cons-head, cons-tail, nil-cons}
 use Rattle.protocol.proofs.Moves.{projects, start-made, played-followed}
 use Rattle.runs.specs.Events.{Event, directionOf, own, labels}
-use Rattle.runs.specs.Run.{Book, Fits, Beginning, Run}
+use Rattle.runs.specs.Run.{Book, Beginning}
 use Rattle.runs.specs.Steady.{AllSteady}
 use Rattle.runs.specs.Stands.{SetAfter}
 use Rattle.runs.specs.Closing.{Whole}

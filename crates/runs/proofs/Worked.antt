@@ -7,11 +7,11 @@ use mathlib.Core.Logic.{_⊎_, inl, inr}
 use native.Mathlib.Omega.{arith}
 use lib.Dec.{ltb}
 use lib.ListN.{length}
-use Rattle.std.specs.declared.option.Option.the-variants.{None}
+use Rattle.std.specs.declared.option.Option.the-variants.{Some, None}
 use Rattle.std.specs.shelf.Lists.{All}
-use Rattle.sheet.specs.Model.{Sheet, ended, exchange}
+use Rattle.sheet.specs.Model.{Sheet}
 use Rattle.sheet.specs.Encode.{encode}
-use Rattle.sheet.specs.Decode.{table, model}
+use Rattle.sheet.specs.Decode.{table}
 use Rattle.sheet.specs.Names.{alike}
 use Rattle.sheet.specs.Refuse.{countFault, headerFault, placed, branchFault, fault}
 use Rattle.sheet.specs.Law.{Bytes}
@@ -19,20 +19,23 @@ use Rattle.sheet.specs.Valid.{Valid}
 use Rattle.sheet.proofs.Sound.{sound}
 use Rattle.sheet.proofs.Pieces.{model-encode}
 use Rattle.protocol.specs.Places.{Place, Has}
-use Rattle.protocol.specs.Actions.{Way, sends, receives, Action, receiving, turn}
+use Rattle.protocol.specs.Actions.{Way, sends, receives, Action, sending, receiving, turn}
 use Rattle.protocol.specs.Paths.{PathFrom, share}
-use Rattle.protocol.specs.Sets.{here, on, Start}
+use Rattle.protocol.specs.Sets.{here, on, Acts, Start, After, Followed}
 use Rattle.protocol.specs.Accepted.{HasPart, Accepted}
 use Rattle.std.proofs.shelf.Tests.{and-parts, ltb-true}
 use Rattle.protocol.proofs.Listed.{places, every, listed-from-has, place-at}
-use Rattle.protocol.proofs.Checked.{part-of, part-true}
+use Rattle.protocol.proofs.Checked.{part-true}
 use Rattle.protocol.proofs.Turns.{cons-head, nil-cons}
-use Rattle.runs.specs.Events.{Event, directionOf, mine, own, along, sent, taken}
-use Rattle.runs.specs.Run.{Book, Rising, InOrder, Channels, Fits, Beginning, timings, Timely, Run}
+use Rattle.runs.specs.Events.{Event, directionOf, mine, own, along, sent, taken, labels}
+use Rattle.runs.specs.Run.{Rising, InOrder, Channels, Beginning, timings, Timely, Run}
 use Rattle.runs.specs.Waiting.{waiting}
-use Rattle.runs.specs.Closing.{Whole, Completes}
-use Rattle.runs.specs.Examples.{branch, event, oven, windows, heated, falling, unsent, astray, neither, late, OnSomePath, TimelyOnSomePath, NoRun, OvenExamples, ticker, sendings, TickerExamples, relay, untold, ThirdPartyExamples}
-use Rattle.runs.proofs.Own.{mine-other, own-unknown, along-direction, more-none}
+use Rattle.runs.specs.Steady.{Steady, AllSteady}
+use Rattle.runs.specs.Stands.{SetAfter}
+use Rattle.runs.specs.Closing.{Finished, Whole, Completes}
+use Rattle.runs.specs.Laws.{Least, Could}
+use Rattle.runs.specs.Examples.{branch, event, oven, windows, heated, falling, unsent, astray, neither, late, early, heating, TimelyOnSomePath, NoRun, OvenExamples, ticker, sendings, TickerExamples, relay, untold, declined, ThirdPartyExamples}
+use Rattle.runs.proofs.Own.{mine-other, own-push-same, own-unknown, along-direction, not-sending, more-hit, more-none}
 use Rattle.runs.proofs.Clocks.{Follows, beginning, timely}
 use Rattle.runs.proofs.Growth.{Fit, in-order-step, channels-now, channels-push, channels-none}
 use Rattle.runs.proofs.Ending.{end-reaches}
@@ -60,23 +63,35 @@ channels-add : (d : ℕ) (es : List Event) (e : Event) (w : Way) → Channels d 
 channels-add d es e w c q fit = channels-push d es e c (in-order-step d es e w q (channels-now d es c) fit)
 
 -- the first place of a path of the oven sheet
-abbrev heating : Place
-heating = place-at 0 0 1 (branch 0 1 255 0 3)
+abbrev heat-place : Place
+heat-place = place-at 0 0 1 (branch 0 1 255 0 3)
 
-abbrev hot : Place
-hot = place-at 1 1 0 (branch 1 2 1 255 0)
+abbrev hot-place : Place
+hot-place = place-at 1 1 0 (branch 1 2 1 255 0)
 
-first-place : (p : Place) → Has oven p → p .state ≡ 0 → p ≡ heating
+first-place : (p : Place) → Has oven p → p .state ≡ 0 → p ≡ heat-place
 first-place p h s = go (listed-from-has oven p h)
   where
-    go : List·Memᴰ p (places oven) → p ≡ heating
+    go : List·Memᴰ p (places oven) → p ≡ heat-place
     go (List·Memᴰ·head q) = q
     go (List·Memᴰ·tail (List·Memᴰ·head q)) = absurd (let z : p .state ≡ 1 = ap (λ (x : Place). x .state) q in omega arith)
     go (List·Memᴰ·tail (List·Memᴰ·tail (List·Memᴰ·head q))) = absurd (let z : p .state ≡ 1 = ap (λ (x : Place). x .state) q in omega arith)
     go (List·Memᴰ·tail (List·Memᴰ·tail (List·Memᴰ·tail i))) = elim i [ ]
 
+abbrev fault-place : Place
+fault-place = place-at 1 1 0 (branch 2 2 255 255 0)
+
+second-place : (p : Place) → Has oven p → p .state ≡ 1 → (p ≡ hot-place) ⊎ (p ≡ fault-place)
+second-place p h s = go (listed-from-has oven p h)
+  where
+    go : List·Memᴰ p (places oven) → (p ≡ hot-place) ⊎ (p ≡ fault-place)
+    go (List·Memᴰ·head q) = absurd (let z : p .state ≡ 0 = ap (λ (x : Place). x .state) q in omega arith)
+    go (List·Memᴰ·tail (List·Memᴰ·head q)) = inl q
+    go (List·Memᴰ·tail (List·Memᴰ·tail (List·Memᴰ·head q))) = inr q
+    go (List·Memᴰ·tail (List·Memᴰ·tail (List·Memᴰ·tail i))) = elim i [ ]
+
 abbrev whole-path : List Place
-whole-path = heating ∷ hot ∷ []
+whole-path = heat-place ∷ hot-place ∷ []
 
 whole-leads : PathFrom oven 0 whole-path
 whole-leads = (
@@ -86,7 +101,7 @@ whole-leads = (
 )
 
 abbrev short-path : List Place
-short-path = heating ∷ []
+short-path = heat-place ∷ []
 
 short-leads : PathFrom oven 0 short-path
 short-leads = (record { branches = branch 0 1 255 0 3 ∷ []; stands = refl; among = List·Memᴰ·head refl }, refl, tt)
@@ -178,7 +193,7 @@ astray-path : (path : List Place) → PathFrom oven 0 path → Beginning (own 1 
 unfolding mine turn
 astray-path [] leads b = b
 astray-path (p ∷ path) leads b =
-    let c : Beginning (own 1 astray) (share 1 (heating ∷ path)) = subst (λ (q : Place). Beginning (own 1 astray) (share 1 (q ∷ path))) (first-place p (leads .0) (leads .1)) b in
+    let c : Beginning (own 1 astray) (share 1 (heat-place ∷ path)) = subst (λ (q : Place). Beginning (own 1 astray) (share 1 (q ∷ path))) (first-place p (leads .0) (leads .1)) b in
     let d : _≡_ {A = ℕ} 0 1 = c .0 .direction in
     omega arith
 
@@ -191,7 +206,7 @@ neither-path : (path : List Place) → PathFrom oven 0 path → Beginning (own 0
 unfolding mine turn
 neither-path [] leads b = b
 neither-path (p ∷ path) leads b =
-    let c : Beginning (own 0 neither) (share 0 (heating ∷ path)) = subst (λ (q : Place). Beginning (own 0 neither) (share 0 (q ∷ path))) (first-place p (leads .0) (leads .1)) b in
+    let c : Beginning (own 0 neither) (share 0 (heat-place ∷ path)) = subst (λ (q : Place). Beginning (own 0 neither) (share 0 (q ∷ path))) (first-place p (leads .0) (leads .1)) b in
     let d : _≡_ {A = ℕ} 2 0 = c .0 .direction in
     omega arith
 
@@ -213,8 +228,8 @@ late-path : (path : List Place) → PathFrom oven 0 path → Beginning (own 1 la
 unfolding mine turn
 late-path [] leads b t = b
 late-path (p ∷ path) leads b t =
-    let c : Timely windows 100 (own 1 late) (timings (share 1 (heating ∷ path))) = subst (λ (q : Place). Timely windows 100 (own 1 late) (timings (share 1 (q ∷ path)))) (first-place p (leads .0) (leads .1)) t in
-    closed (c [] [] (event 1 1 0 0 106) refl [] (timings (share 1 path)) (receiving heating .timing) refl refl)
+    let c : Timely windows 100 (own 1 late) (timings (share 1 (heat-place ∷ path))) = subst (λ (q : Place). Timely windows 100 (own 1 late) (timings (share 1 (q ∷ path)))) (first-place p (leads .0) (leads .1)) t in
+    closed (c [] [] (event 1 1 0 0 106) refl [] (timings (share 1 path)) (receiving heat-place .timing) refl refl)
   where
     closed : (_≡_ {A = ℕ} 0 255) ⊎ (_≤_ 6 5) → ⊥
     closed (inl q) = omega arith
@@ -225,6 +240,131 @@ unfolding mine turn
 late-follows zero = (record { direction = refl; partner = refl; label = refl }, tt)
 late-follows (suc zero) = (record { direction = refl; partner = refl; label = refl }, tt)
 late-follows (suc (suc m)) = rw (own-unknown 2 (suc (suc m)) (omega arith) late (omega arith)) tt
+
+-- the same, once HEAT was taken in time
+early-channels : Channels 8 early
+unfolding mine along waiting
+early-channels = channels-add 8 (taken-at 105) (event 1 0 0 1 124) sends (taken-channels 105) refl (omega arith)
+
+abbrev EarlyOn : List Place → Type 0
+EarlyOn path = Beginning (own 1 early) (share 1 path) × Timely windows 100 (own 1 early) (timings (share 1 path))
+
+early-hot : (path : List Place) → EarlyOn (heat-place ∷ hot-place ∷ path) → ⊥
+unfolding mine turn
+early-hot path x = closed (x .1 (event 1 1 0 0 105 ∷ []) [] (event 1 0 0 1 124) refl (receiving heat-place .timing ∷ []) (timings (share 1 path)) (sending hot-place .timing) refl refl)
+  where
+    closed : (_≡_ {A = ℕ} 1 255) ⊎ ((_≤_ 20 19) × (_≤_ 19 40)) → ⊥
+    closed (inl q) = omega arith
+    closed (inr q) = omega arith
+
+early-fault : (path : List Place) → EarlyOn (heat-place ∷ fault-place ∷ path) → ⊥
+unfolding mine turn
+early-fault path x = let q : _≡_ {A = ℕ} 1 2 = x .0 .1 .0 .label in omega arith
+
+early-short : EarlyOn (heat-place ∷ []) → ⊥
+unfolding mine turn
+early-short x = x .0 .1
+
+early-none : EarlyOn [] → ⊥
+unfolding mine
+early-none x = x .0
+
+early-path : (path : List Place) → PathFrom oven 0 path → EarlyOn path → ⊥
+early-path [] leads x = early-none x
+early-path (p ∷ []) leads x = early-short (subst (λ (q : Place). EarlyOn (q ∷ [])) (first-place p (leads .0) (leads .1)) x)
+early-path (p ∷ (q ∷ path)) leads x =
+    let is : p ≡ heat-place = first-place p (leads .0) (leads .1) in
+    go (second-place q (leads .2 .0) (leads .2 .1 ∙ ap (λ (z : Place). z .branch .next) is)) (subst (λ (z : Place). EarlyOn (z ∷ q ∷ path)) is x)
+  where
+    go : (q ≡ hot-place) ⊎ (q ≡ fault-place) → EarlyOn (heat-place ∷ q ∷ path) → ⊥
+    go (inl e) y = early-hot path (subst (λ (z : Place). EarlyOn (heat-place ∷ z ∷ path)) e y)
+    go (inr e) y = early-fault path (subst (λ (z : Place). EarlyOn (heat-place ∷ z ∷ path)) e y)
+
+early-follows : (m : ℕ) → Beginning (own m early) (share m whole-path)
+unfolding mine turn
+early-follows zero = (record { direction = refl; partner = refl; label = refl }, tt)
+early-follows (suc zero) = (record { direction = refl; partner = refl; label = refl }, (record { direction = refl; partner = refl; label = refl }, tt))
+early-follows (suc (suc m)) = rw (own-unknown 2 (suc (suc m)) (omega arith) early (omega arith)) tt
+
+-- Foresight. OVEN can send FAULT at once.
+abbrev faulty : List Event
+faulty = event 0 0 1 0 103 ∷ event 1 1 0 0 105 ∷ event 1 0 0 2 105 ∷ []
+
+fault-leads : PathFrom oven 0 (heat-place ∷ fault-place ∷ [])
+fault-leads = (
+  record { branches = branch 0 1 255 0 3 ∷ []; stands = refl; among = List·Memᴰ·head refl },
+  refl,
+  (record { branches = branch 1 2 1 255 0 ∷ branch 2 2 255 255 0 ∷ []; stands = refl; among = List·Memᴰ·tail (List·Memᴰ·head refl) }, refl, tt),
+)
+
+fault-follows : (m : ℕ) → Follows windows 100 (own m faulty) (share m (heat-place ∷ fault-place ∷ []))
+unfolding mine turn
+fault-follows zero = (record { direction = refl; partner = refl; label = refl }, inl refl, tt)
+fault-follows (suc zero) = (record { direction = refl; partner = refl; label = refl }, inr (omega arith), (record { direction = refl; partner = refl; label = refl }, inl refl, tt))
+fault-follows (suc (suc m)) = rw (own-unknown 2 (suc (suc m)) (omega arith) faulty (omega arith)) tt
+
+fault-channels : Channels 8 faulty
+unfolding mine along waiting
+fault-channels = channels-add 8 (taken-at 105) (event 1 0 0 2 105) sends (taken-channels 105) refl (omega arith)
+
+fault-run : Run oven windows 100 8 faulty
+fault-run = run-from oven 100 8 faulty (omega arith) fault-channels (on-some-path oven faulty (omega arith) (heat-place ∷ fault-place ∷ []) fault-leads 100 fault-follows)
+
+oven-next : Least (Could oven windows 100 8 heating 1) 105 4294967295 (Some 105)
+oven-next = (omega arith, omega arith, (event 1 0 0 2 105, refl, refl, fault-run), λ u l k x. omega arith)
+
+-- MAIN can only take from OVEN, and nothing waits there.
+abbrev MainOn : Event → List Place → Type 0
+MainOn e path = Beginning (event 0 0 1 0 103 ∷ e ∷ []) (share 0 path)
+
+abbrev Takes : Event → Type 0
+Takes e = (e .direction ≡ 1) × (e .partner ≡ 1)
+
+main-hot : (e : Event) (path : List Place) → MainOn e (heat-place ∷ hot-place ∷ path) → Takes e
+unfolding turn
+main-hot e path b = (b .1 .0 .direction, b .1 .0 .partner)
+
+main-fault : (e : Event) (path : List Place) → MainOn e (heat-place ∷ fault-place ∷ path) → Takes e
+unfolding turn
+main-fault e path b = (b .1 .0 .direction, b .1 .0 .partner)
+
+main-short : (e : Event) → MainOn e (heat-place ∷ []) → Takes e
+unfolding turn
+main-short e b = absurd (b .1)
+
+main-path : (e : Event) (path : List Place) → PathFrom oven 0 path → MainOn e path → Takes e
+main-path e [] leads b = absurd b
+main-path e (p ∷ []) leads b = main-short e (subst (λ (q : Place). MainOn e (q ∷ [])) (first-place p (leads .0) (leads .1)) b)
+main-path e (p ∷ (q ∷ path)) leads b =
+    let is : p ≡ heat-place = first-place p (leads .0) (leads .1) in
+    go (second-place q (leads .2 .0) (leads .2 .1 ∙ ap (λ (z : Place). z .branch .next) is)) (subst (λ (z : Place). MainOn e (z ∷ q ∷ path)) is b)
+  where
+    go : (q ≡ hot-place) ⊎ (q ≡ fault-place) → MainOn e (heat-place ∷ q ∷ path) → Takes e
+    go (inl x) y = main-hot e path (subst (λ (z : Place). MainOn e (heat-place ∷ z ∷ path)) x y)
+    go (inr x) y = main-fault e path (subst (λ (z : Place). MainOn e (heat-place ∷ z ∷ path)) x y)
+
+main-own : (e : Event) → e .role ≡ 0 → own 0 (heating ++ (e ∷ [])) ≡ event 0 0 1 0 103 ∷ e ∷ []
+unfolding mine
+main-own e q = own-push-same 0 heating e (sym q)
+
+oven-sent-nothing : sent 1 0 heating ≡ []
+unfolding mine along
+oven-sent-nothing = refl
+
+main-took-nothing : taken 1 0 heating ≡ []
+unfolding mine along
+main-took-nothing = refl
+
+main-next : Least (Could oven windows 100 8 heating 0) 105 4294967295 None
+main-next u l k x = blocked (x .0) (x .1) (x .3)
+  where
+    blocked : (e : Event) → e .role ≡ 0 → Run oven windows 100 8 (heating ++ (e ∷ [])) → ⊥
+    blocked e q r =
+        let t = main-path e (r .path) (r .leads) (subst (λ (z : List Event). Beginning z (share 0 (r .path))) (main-own e q) (r .shares 0)) in
+        let b = channels-now 8 (heating ++ (e ∷ [])) (r .channels) 1 0 .0 in
+        let s : sent 1 0 (heating ++ (e ∷ [])) ≡ [] = more-none sends 0 heating e (not-sending 0 e (t .0)) 1 ∙ oven-sent-nothing in
+        let w : taken 1 0 (heating ++ (e ∷ [])) ≡ e ∷ [] = more-hit receives 1 heating e (t .0) (t .1) 0 (sym q) ∙ ap (λ (z : List Event). z ++ (e ∷ [])) main-took-nothing in
+        nil-cons (sym (ap labels s) ∙ b .1 ∙ ap (λ (z : List Event). labels z ++ b .0) w)
 
 pub oven-examples : OvenExamples
 oven-examples = record {
@@ -237,6 +377,9 @@ oven-examples = record {
   strays = (λ r. astray-path (r .path) (r .leads) (r .shares 1), omega arith, astray-channels);
   has-no-direction = (λ r. neither-path (r .path) (r .leads) (r .shares 0), omega arith, neither-channels);
   is-late = (λ r. late-path (r .path) (r .leads) (r .shares 1) (r .clocks 1), omega arith, taken-channels 106, record { known = omega arith; path = short-path; leads = short-leads; shares = late-follows });
+  is-early = (λ r. early-path (r .path) (r .leads) (r .shares 1, r .clocks 1), omega arith, early-channels, record { known = omega arith; path = whole-path; leads = whole-leads; shares = early-follows });
+  oven-next = oven-next;
+  main-next = main-next;
 }
 
 -- The ticker.
@@ -301,26 +444,113 @@ relay-accepted (suc zero) l = part-true relay 1 (2 ∷ 1 ∷ 0 ∷ []) ((0 ∷ [
 relay-accepted (suc (suc zero)) l = part-true relay 2 (2 ∷ 1 ∷ 0 ∷ []) ((0 ∷ 1 ∷ 2 ∷ []) ∷ (3 ∷ []) ∷ []) refl
 relay-accepted (suc (suc (suc m))) l = absurd (omega arith)
 
--- C's start set holds the end, and a state in which C acts
-untold-refused : Accepted untold → ⊥
+abbrev go-place : Place
+go-place = place-at 0 0 1 (branch 0 1 255 255 0)
+
+abbrev no-place : Place
+no-place = place-at 0 0 1 (branch 1 2 255 255 0)
+
+abbrev run-place : Place
+run-place = place-at 1 1 2 (branch 2 2 255 255 0)
+
+go-stands : Has untold go-place
+go-stands = record { branches = branch 0 1 255 255 0 ∷ branch 1 2 255 255 0 ∷ []; stands = refl; among = List·Memᴰ·head refl }
+
+no-stands : Has untold no-place
+no-stands = record { branches = branch 0 1 255 255 0 ∷ branch 1 2 255 255 0 ∷ []; stands = refl; among = List·Memᴰ·tail (List·Memᴰ·head refl) }
+
+-- C's start set holds a state in which C acts, and the end
+start-acts : Start untold 2 1
 unfolding turn
-untold-refused accepted =
-    end-reaches untold 2 2 refl (accepted 2 (omega arith) .sound [] tt .told 1 second (receiving running) (2, record { place = running; has = running-stands; at = refl; acts = refl; leads = refl }) 2 third)
+start-acts = on go-place go-stands (here refl) refl refl
+
+start-ends : Start untold 2 2
+unfolding turn
+start-ends = on no-place no-stands (here refl) refl refl
+
+runs-there : Acts untold 2 1 (receiving run-place)
+unfolding turn
+runs-there = (2, record { place = run-place; has = record { branches = branch 2 2 255 255 0 ∷ []; stands = refl; among = List·Memᴰ·head refl }; at = refl; acts = refl; leads = refl })
+
+untold-refused : Accepted untold → ⊥
+untold-refused accepted = end-reaches untold 2 2 refl (accepted 2 (omega arith) .sound [] tt .told 1 start-acts (receiving run-place) runs-there 2 start-ends)
+
+-- C has one action in the whole sheet, and it is no sending
+only-receives : (s : ℕ) (a : Action) → Acts untold 2 s a → a ≡ receiving run-place
+unfolding turn
+only-receives s a i = go (i .1 .place) (i .1 .acts) (listed-from-has untold (i .1 .place) (i .1 .has))
   where
-    going : Place
-    going = place-at 0 0 1 (branch 0 1 255 255 0)
+    go : (p : Place) → turn 2 p ≡ a ∷ [] → List·Memᴰ p (places untold) → a ≡ receiving run-place
+    go p t (List·Memᴰ·head q) = absurd (nil-cons (sym (ap (turn 2) q) ∙ t))
+    go p t (List·Memᴰ·tail (List·Memᴰ·head q)) = absurd (nil-cons (sym (ap (turn 2) q) ∙ t))
+    go p t (List·Memᴰ·tail (List·Memᴰ·tail (List·Memᴰ·head q))) = sym (cons-head (sym (ap (turn 2) q) ∙ t))
+    go p t (List·Memᴰ·tail (List·Memᴰ·tail (List·Memᴰ·tail i))) = elim i [ ]
 
-    running : Place
-    running = place-at 1 1 2 (branch 2 2 255 255 0)
+never-sends : {A : Type 0} (s : ℕ) (a : Action) → Acts untold 2 s a → a .way ≡ sends → A
+never-sends s a i w =
+    let q : receives ≡ sends = sym (ap (λ (x : Action). x .way) (only-receives s a i)) ∙ w in
+    let z : _≡_ {A = ℕ} 1 0 = ap directionOf q in
+    absurd (omega arith)
 
-    running-stands : Has untold running
-    running-stands = record { branches = branch 2 2 255 255 0 ∷ []; stands = refl; among = List·Memᴰ·head refl }
+part-steady : (sh : Sheet) (m : ℕ) → HasPart sh m → (ls : List ℕ) → Followed sh m (Start sh m) ls → Steady sh m (After sh m (Start sh m) ls)
+part-steady sh m part ls f =
+    let ok = part .sound ls f in
+    record { one-side = ok .one-side; same-offer = ok .same-offer; no-clash = ok .no-clash; told = λ s x a i w. ok .told s x a i }
 
-    second : Start untold 2 1
-    second = on going (record { branches = branch 0 1 255 255 0 ∷ branch 1 2 255 255 0 ∷ []; stands = refl; among = List·Memᴰ·head refl }) (here refl) refl refl
+untold-steady : AllSteady untold
+unfolding turn
+untold-steady zero l ls f = part-steady untold 0 (part-true untold 0 (0 ∷ []) ((0 ∷ []) ∷ (1 ∷ 2 ∷ []) ∷ (2 ∷ []) ∷ []) refl) ls f
+untold-steady (suc zero) l ls f = part-steady untold 1 (part-true untold 1 (1 ∷ 0 ∷ []) ((0 ∷ []) ∷ (1 ∷ []) ∷ (2 ∷ []) ∷ []) refl) ls f
+untold-steady (suc (suc zero)) l ls f = record {
+  one-side = λ s t x y a b i j. let q : a ≡ b = only-receives s a i ∙ sym (only-receives t b j) in (ap (λ (z : Action). z .way) q, ap (λ (z : Action). z .partner) q);
+  same-offer = λ s t x y a b i j w. never-sends s a i w;
+  no-clash = λ s t x y a b i j w k. ap (λ (z : Action). z .timing) (only-receives s a i ∙ sym (only-receives t b j));
+  told = λ s x a i w. never-sends s a i w;
+}
+untold-steady (suc (suc (suc m))) l ls f = absurd (omega arith)
 
-    third : Start untold 2 2
-    third = on (place-at 0 0 1 (branch 1 2 255 255 0)) (record { branches = branch 0 1 255 255 0 ∷ branch 1 2 255 255 0 ∷ []; stands = refl; among = List·Memᴰ·tail (List·Memᴰ·head refl) }) (here refl) refl refl
+declined-known : All (λ e. e .role < length (untold .roles)) declined
+declined-known = omega arith
+
+declined-follows : (m : ℕ) → Follows windows 0 (own m declined) (share m (no-place ∷ []))
+unfolding mine turn
+declined-follows zero = (record { direction = refl; partner = refl; label = refl }, inl refl, tt)
+declined-follows (suc zero) = (record { direction = refl; partner = refl; label = refl }, inl refl, tt)
+declined-follows (suc (suc m)) = rw (declined-none (suc (suc m)) (omega arith)) tt
+  where
+    declined-none : (m : ℕ) → 2 ≤ m → own m declined ≡ []
+    declined-none m l = own-unknown 2 m l declined (omega arith)
+
+declined-channels : Channels 8 declined
+unfolding mine along waiting
+declined-channels =
+    channels-add 8 (event 0 0 1 1 5 ∷ []) (event 1 1 0 1 6) receives (channels-add 8 [] (event 0 0 1 1 5) sends (channels-none 8) refl (omega arith)) refl (_, _, refl, refl)
+
+declined-run : Run untold windows 0 8 declined
+declined-run = run-from untold 0 8 declined (omega arith) declined-channels (on-some-path untold declined declined-known (no-place ∷ []) (no-stands, refl, tt) 0 declined-follows)
+
+declined-completes : Completes untold declined
+unfolding mine turn
+declined-completes = record { path = no-place ∷ []; leads = (no-stands, refl, tt); ends = refl; shares = shares }
+  where
+    shares : (m : ℕ) → m < length (untold .roles) → Whole (own m declined) (share m (no-place ∷ []))
+    shares zero l = record { begin = beginning windows 0 (own 0 declined) (share 0 (no-place ∷ [])) (declined-follows 0); all = refl }
+    shares (suc zero) l = record { begin = beginning windows 0 (own 1 declined) (share 1 (no-place ∷ [])) (declined-follows 1); all = refl }
+    shares (suc (suc zero)) l = record { begin = beginning windows 0 (own 2 declined) (share 2 (no-place ∷ [])) (declined-follows 2); all = refl }
+    shares (suc (suc (suc m))) l = absurd (omega arith)
+
+untold-waits : Finished untold 2 (SetAfter untold 2 declined) → ⊥
+unfolding mine
+untold-waits finished = finished 1 start-acts (receiving run-place) runs-there
 
 pub third-party-examples : ThirdPartyExamples
-third-party-examples = record { relay-valid = relay-valid; relay-accepted = relay-accepted; untold-valid = untold-valid; untold-refused = untold-refused }
+third-party-examples = record {
+  relay-valid = relay-valid;
+  relay-accepted = relay-accepted;
+  untold-valid = untold-valid;
+  untold-refused = untold-refused;
+  untold-steady = untold-steady;
+  untold-run = declined-run;
+  untold-completes = declined-completes;
+  untold-waits = untold-waits;
+}

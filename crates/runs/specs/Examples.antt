@@ -1,11 +1,10 @@
 -- Meaning: sheets and lists of events written out, and what is so of them.
 use Prim.Native.Nat.{ℕ, zero, suc, _<_, _≤_}
-use mathlib.Core.Path.{_≡_}
 use mathlib.Core.List.{List, [], _∷_}
 use lib.ListN.{length}
+use Rattle.std.specs.declared.option.Option.the-variants.{Some, None}
 use Rattle.std.specs.shelf.Lists.{All}
 use Rattle.sheet.specs.declared.branch.Branch.{Branch}
-use Rattle.sheet.specs.Encode.{encode}
 use Rattle.sheet.specs.Model.{Sheet, ended, exchange}
 use Rattle.sheet.specs.Valid.{Valid}
 use Rattle.protocol.specs.Places.{Place}
@@ -13,7 +12,10 @@ use Rattle.protocol.specs.Paths.{PathFrom, share}
 use Rattle.protocol.specs.Accepted.{Accepted}
 use Rattle.runs.specs.Events.{Event, own}
 use Rattle.runs.specs.Run.{Book, Rising, Channels, Beginning, timings, Timely, Run}
-use Rattle.runs.specs.Closing.{Completes}
+use Rattle.runs.specs.Steady.{AllSteady}
+use Rattle.runs.specs.Stands.{SetAfter}
+use Rattle.runs.specs.Closing.{Finished, Completes}
+use Rattle.runs.specs.Laws.{Least, Could}
 
 abbrev pub branch : ℕ → ℕ → ℕ → ℕ → ℕ → Branch
 branch label next send receive resets = record { label = label; next = next; send = send; receive = receive; resets = resets }
@@ -60,6 +62,15 @@ neither = event 0 2 1 0 103 ∷ []
 abbrev pub late : List Event
 late = event 0 0 1 0 103 ∷ event 1 1 0 0 106 ∷ []
 
+-- OVEN, whose clock was reset when it took HEAT, sends HOT when its clock is at 19. Counted from the opening it would be
+-- at 24, and counted from MAIN's sending at 21: both would be in the row.
+abbrev pub early : List Event
+early = event 0 0 1 0 103 ∷ event 1 1 0 0 105 ∷ event 1 0 0 1 124 ∷ []
+
+-- MAIN sent HEAT and OVEN took it
+abbrev pub heating : List Event
+heating = event 0 0 1 0 103 ∷ event 1 1 0 0 105 ∷ []
+
 -- the third point alone
 pub record OnSomePath (sh : Sheet) (es : List Event) : Type 0 where
   pub known : All (λ e. e .role < length (sh .roles)) es
@@ -89,6 +100,10 @@ pub record OvenExamples : Type 0 where
   pub has-no-direction : NoRun neither × Rising 100 neither × Channels 8 neither
   -- the fourth alone
   pub is-late : NoRun late × Rising 100 late × Channels 8 late × OnSomePath oven late
+  pub is-early : NoRun early × Rising 100 early × Channels 8 early × OnSomePath oven early
+  -- after HEAT was taken at 105, OVEN can go on at once, by FAULT, and MAIN cannot whatever the tick
+  pub oven-next : Least (Could oven windows 100 8 heating 1) 105 4294967295 (Some 105)
+  pub main-next : Least (Could oven windows 100 8 heating 0) 105 4294967295 None
 
 -- roles A and B, one label, no time rows: A sends to B for ever
 abbrev pub ticker : Sheet
@@ -127,6 +142,10 @@ untold = record {
   rows = 0;
 }
 
+-- A sends NO and B takes it
+abbrev pub declined : List Event
+declined = event 0 0 1 1 5 ∷ event 1 1 0 1 6 ∷ []
+
 -- The third party C of the relay learns from B which way A went, and the sheet is accepted; in the other sheet it may
 -- wait for ever, and the sheet is not.
 pub record ThirdPartyExamples : Type 0 where
@@ -134,3 +153,9 @@ pub record ThirdPartyExamples : Type 0 where
   pub relay-accepted : Accepted relay
   pub untold-valid : Valid untold
   pub untold-refused : Accepted untold → ⊥
+  -- Agreement still holds of it, for in no set in which a role sends does the fourth point fail. Closing does not: after
+  -- NO a path to an end has every role's events as its whole share, and yet C is not finished.
+  pub untold-steady : AllSteady untold
+  pub untold-run : Run untold windows 0 8 declined
+  pub untold-completes : Completes untold declined
+  pub untold-waits : Finished untold 2 (SetAfter untold 2 declined) → ⊥

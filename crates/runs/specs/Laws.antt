@@ -4,6 +4,7 @@ use mathlib.Core.Path.{_≡_}
 use mathlib.Core.List.{List, [], _∷_, _++_, map}
 use mathlib.Core.Logic.{_↔_, _⊎_, _≢_}
 use lib.ListN.{length}
+use Rattle.std.specs.shelf.Lists.{All}
 use Rattle.std.specs.declared.option.Option.{Option}
 use Rattle.std.specs.declared.option.Option.the-variants.{Some, None}
 use Rattle.sheet.specs.Model.{Sheet}
@@ -66,12 +67,12 @@ abbrev pub Accepted-is-steady : Type 0
 Accepted-is-steady = (sh : Sheet) → Accepted sh → AllSteady sh
 
 -- no events are a run, and every beginning of a run is a run: of every sheet, accepted or not
-pub record Begins-with-runs (book : Book) (sh : Sheet) (opening depth : ℕ) : Type 0 where
+pub record RunsBegin (book : Book) (sh : Sheet) (opening depth : ℕ) : Type 0 where
   pub empty : Run sh book opening depth []
   pub front : (front back : List Event) → Run sh book opening depth (front ++ back) → Run sh book opening depth front
 
 abbrev pub Beginnings : Book → Type 0
-Beginnings book = (sh : Sheet) (opening depth : ℕ) → Begins-with-runs book sh opening depth
+Beginnings book = (sh : Sheet) (opening depth : ℕ) → RunsBegin book sh opening depth
 
 -- What one event more does to what waits, in a run of any sheet.
 pub record OneMore (es : List Event) (e : Event) : Type 0 where
@@ -91,12 +92,12 @@ pub record Waits (depth : ℕ) (es : List Event) (a b : ℕ) : Type 0 where
   pub few : length (waiting a b es) ≤ depth
   pub parts : labels (sent a b es) ≡ labels (taken a b es) ++ map (λ (x : Message). x .label) (waiting a b es)
 
-pub record ChannelsRead (book : Book) (sh : Sheet) (opening depth : ℕ) : Type 0 where
+pub record WaitsByEvents (book : Book) (sh : Sheet) (opening depth : ℕ) : Type 0 where
   pub waits : (es : List Event) → Run sh book opening depth es → (a b : ℕ) → Waits depth es a b
   pub one-more : (es : List Event) (e : Event) → Run sh book opening depth (es ++ (e ∷ [])) → OneMore es e
 
 abbrev pub Channels-read : Book → Type 0
-Channels-read book = (sh : Sheet) (opening depth : ℕ) → ChannelsRead book sh opening depth
+Channels-read book = (sh : Sheet) (opening depth : ℕ) → WaitsByEvents book sh opening depth
 
 -- some path to state s has role m's events as its whole share for it
 pub record PathTo (sh : Sheet) (m : ℕ) (es : List Event) (s : ℕ) : Type 0 where
@@ -117,3 +118,20 @@ abbrev pub Closing : Book → Type 0
 Closing book =
     (sh : Sheet) → Valid sh → Accepted sh → (opening depth : ℕ) (es : List Event) (σ : Monitor) → Stands sh book opening depth es σ →
     ((m : ℕ) → m < length (sh .roles) → Finished sh m (InSet σ m)) ↔ Completes sh es
+
+-- an event that names what the sheet has: roles below their count and apart, a label below its count, direction 0 or 1
+pub record InRange (sh : Sheet) (e : Event) : Type 0 where
+  pub role-known : e .role < length (sh .roles)
+  pub partner-known : e .partner < length (sh .roles)
+  pub apart : e .role ≢ e .partner
+  pub label-known : e .label < length (sh .labels)
+  pub direction-known : e .direction ≤ 1
+
+-- no run of a valid sheet has any other event
+abbrev pub In-range : Book → Type 0
+In-range book = (sh : Sheet) → Valid sh → (opening depth : ℕ) (es : List Event) → Run sh book opening depth es → All (InRange sh) es
+
+-- The lists of events that a monitor passes, one after the other, are exactly the runs.
+abbrev pub Passed-are-runs : Book → Type 0
+Passed-are-runs book =
+    (sh : Sheet) → Valid sh → Accepted sh → (opening depth : ℕ) (es : List Event) → ((σ : Monitor) × Reached sh book opening depth es σ) ↔ Run sh book opening depth es

@@ -1,6 +1,5 @@
 -- Meaning: what waits in each channel, as a function of the events.
-use Prim.Native.Nat.{ℕ, _-_, _≤_}
-use mathlib.Core.Path.{_≡_}
+use Prim.Native.Nat.{ℕ, _-_}
 use mathlib.Core.List.{List, [], _∷_, map}
 use lib.ListN.{length, drop}
 use Rattle.runs.specs.Events.{Event, sent, taken}

@@ -1,5 +1,6 @@
 //! Examples, proved by computation.
 
+ghost use mathlib.Core.Path.{_≡_};
 ghost use Rattle.runs.specs.Examples.{OvenExamples, TickerExamples, ThirdPartyExamples};
 
 /// A run of the oven sheet, and lists of events that are none: each breaks one of the four points and
@@ -9,6 +10,7 @@ pub fn examples_stand() -> u8
     ensures oven { λ _. ⌜ OvenExamples ⌝ }
     ensures ticker { λ _. ⌜ TickerExamples ⌝ }
     ensures parties { λ _. ⌜ ThirdPartyExamples ⌝ }
+    ensures edition { λ r. ⌜ r ≡ 1 ⌝ }
 {
     1
 }

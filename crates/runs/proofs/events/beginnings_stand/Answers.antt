@@ -1,6 +1,7 @@
 -- Cites the beginnings of runs, at the book's rows.
+use mathlib.Core.Path.{refl}
 use Rattle.runs.proofs.Fronts.{beginnings}
 use Rattle.runs.proofs.events.beginnings_stand.Needs as need
 
 pub returns : need.returns
-returns g c = λ b. beginnings (g .B·Rows .admits b)
+returns g c = record { begin = λ b. beginnings (g .B·Rows .admits b); edition = refl }

@@ -1,6 +1,7 @@
 -- Cites what waits in the channels, at the book's rows.
+use mathlib.Core.Path.{refl}
 use Rattle.runs.proofs.Channelled.{channels-read}
 use Rattle.runs.proofs.events.channels_stand.Needs as need
 
 pub returns : need.returns
-returns g c = λ b. channels-read (g .B·Rows .admits b)
+returns g c = record { channels = λ b. channels-read (g .B·Rows .admits b); edition = refl }

@@ -1,6 +1,7 @@
 -- Cites closing, at the book's rows.
+use mathlib.Core.Path.{refl}
 use Rattle.runs.proofs.Ending.{closing}
 use Rattle.runs.proofs.events.closing_stands.Needs as need
 
 pub returns : need.returns
-returns g c = λ b. closing (g .B·Rows .admits b)
+returns g c = record { closes = λ b. closing (g .B·Rows .admits b); edition = refl }
