@@ -9,3 +9,7 @@ mod Blanks
 mod Entering
 mod Following
 mod Exploring
+mod Decoding
+mod Likeness
+mod Gathering
+mod Deciding
