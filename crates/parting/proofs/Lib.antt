@@ -13,3 +13,5 @@ mod Decoding
 mod Likeness
 mod Gathering
 mod Deciding
+mod Unique
+mod Soundness
