@@ -9,3 +9,9 @@ mod Blanks
 mod Entering
 mod Following
 mod Exploring
+mod Decoding
+mod Likeness
+mod Gathering
+mod Deciding
+mod Unique
+mod Soundness

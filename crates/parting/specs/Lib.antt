@@ -8,3 +8,4 @@ pub mod Bounds
 pub mod Lists
 pub mod Sets
 pub mod Seen
+pub mod Graph

@@ -7,6 +7,7 @@ mod edge;
 mod family;
 pub mod fault;
 mod found;
+mod graph;
 mod judging;
 mod masks;
 mod point;
