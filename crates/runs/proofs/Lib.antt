@@ -14,3 +14,4 @@ pub mod Worked
 pub mod Ranges
 pub mod Exact
 pub mod Forecast
+pub mod AnyPath

@@ -13,7 +13,7 @@ use Rattle.protocol.specs.Places.{Place}
 use Rattle.protocol.specs.Paths.{PathFrom, endOf, share}
 use Rattle.protocol.specs.Accepted.{Accepted}
 use Rattle.runs.specs.Events.{Event, own, sent, taken, labels}
-use Rattle.runs.specs.Run.{Book, Run}
+use Rattle.runs.specs.Run.{Book, Beginning, timings, lastReset, Timely, Run}
 use Rattle.runs.specs.Waiting.{Message, message, waiting, underWay}
 use Rattle.runs.specs.Steady.{AllSteady}
 use Rattle.runs.specs.Monitor.{Monitor, InSet, Opened, Passes, Changes, Reached}
@@ -111,6 +111,17 @@ abbrev pub Sets-read : (Sheet → Type 0) → Book → Type 0
 Sets-read Good book =
     (sh : Sheet) → Valid sh → Good sh → (opening depth : ℕ) (es : List Event) → Run sh book opening depth es →
     (m : ℕ) → m < length (sh .roles) → (s : ℕ) → SetAfter sh m es s ↔ PathTo sh m es s
+
+-- Which path is taken does not matter: after a run, clocks are in their rows on every path whose shares begin with the
+-- roles' events, and every such path resets each role's clock last at the same tick.
+pub record PathsAgree (sh : Sheet) (book : Book) (opening depth : ℕ) (es : List Event) (r : Run sh book opening depth es) (path : List Place) (m : ℕ) : Type 0 where
+  pub timely : Timely book opening (own m es) (timings (share m path))
+  pub same-reset : lastReset opening (own m es) (timings (share m path)) ≡ lastReset opening (own m es) (timings (share m (r .path)))
+
+abbrev pub Any-path : (Sheet → Type 0) → Book → Type 0
+Any-path Good book =
+    (sh : Sheet) → Valid sh → Good sh → (opening depth : ℕ) (es : List Event) (r : Run sh book opening depth es) →
+    (path : List Place) → PathFrom sh 0 path → (m : ℕ) → Beginning (own m es) (share m path) → PathsAgree sh book opening depth es r path m
 
 -- Closing: after events that passed, every role is finished exactly when some path to an end has every role's events as
 -- its whole share.

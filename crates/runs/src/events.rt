@@ -4,7 +4,7 @@ use crate::book::Rows;
 ghost use mathlib.Core.Path.{_≡_};
 ghost use Rattle.protocol.specs.Accepted.{Accepted};
 ghost use Rattle.runs.specs.Steady.{AllSteady};
-ghost use Rattle.runs.specs.Laws.{Beginnings, In-range, Channels-read, Sets-read, Closing};
+ghost use Rattle.runs.specs.Laws.{Beginnings, In-range, Channels-read, Sets-read, Any-path, Closing};
 
 /// No events are a run, and every beginning of a run is a run.
 /// Answers the edition that the law is about.
@@ -41,6 +41,17 @@ pub fn channels_stand<B: Rows>() -> u8
 pub fn sets_stand<B: Rows>() -> u8
     ensures accepted { λ _. ⌜ ((b : B) → Sets-read Accepted (B·Rows .admits b)) ⌝ }
     ensures steady { λ _. ⌜ ((b : B) → Sets-read AllSteady (B·Rows .admits b)) ⌝ }
+    ensures edition { λ r. ⌜ r ≡ 1 ⌝ }
+{
+    1
+}
+
+/// Which path is taken does not matter. After a run, clocks are in their rows on every path whose shares
+/// begin with the roles' events, and all such paths reset each role's clock last at the same tick.
+/// Answers the edition that the law is about.
+pub fn paths_stand<B: Rows>() -> u8
+    ensures accepted { λ _. ⌜ ((b : B) → Any-path Accepted (B·Rows .admits b)) ⌝ }
+    ensures steady { λ _. ⌜ ((b : B) → Any-path AllSteady (B·Rows .admits b)) ⌝ }
     ensures edition { λ r. ⌜ r ≡ 1 ⌝ }
 {
     1
