@@ -1,5 +1,6 @@
 //! The law that ties the order of refusals to the format.
 
+ghost use mathlib.Core.Path.{_≡_};
 ghost use Rattle.sheet.specs.Law.{Refusals-exact, Encoding-faithful};
 
 /// Law of the format. Bytes are refused exactly when no valid sheet has them as its encoding; and a
@@ -8,6 +9,7 @@ ghost use Rattle.sheet.specs.Law.{Refusals-exact, Encoding-faithful};
 pub fn format_stands() -> u8
     ensures exact { λ _. ⌜ Refusals-exact ⌝ }
     ensures faithful { λ _. ⌜ Encoding-faithful ⌝ }
+    ensures edition { λ r. ⌜ r ≡ 1 ⌝ }
 {
     1
 }

@@ -4,4 +4,4 @@ use Rattle.runs.proofs.Fronts.{beginnings}
 use Rattle.runs.proofs.events.beginnings_stand.Needs as need
 
 pub returns : need.returns
-returns g c = record { begin = λ b. beginnings (g .B·Rows .admits b); edition = refl }
+returns g c = record { begin = λ b. beginnings (g .B·TimeBook .admits b); edition = refl }

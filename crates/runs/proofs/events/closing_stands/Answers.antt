@@ -4,4 +4,4 @@ use Rattle.runs.proofs.Ending.{closing}
 use Rattle.runs.proofs.events.closing_stands.Needs as need
 
 pub returns : need.returns
-returns g c = record { closes = λ b. closing (g .B·Rows .admits b); edition = refl }
+returns g c = record { closes = λ b. closing (g .B·TimeBook .admits b); edition = refl }

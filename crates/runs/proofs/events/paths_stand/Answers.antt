@@ -6,7 +6,7 @@ use Rattle.runs.proofs.events.paths_stand.Needs as need
 
 pub returns : need.returns
 returns g c = record {
-  accepted = λ b sh valid accepted. any-path (g .B·Rows .admits b) sh valid (accepted-steady sh accepted);
-  steady = λ b. any-path (g .B·Rows .admits b);
+  accepted = λ b sh valid accepted. any-path (g .B·TimeBook .admits b) sh valid (accepted-steady sh accepted);
+  steady = λ b. any-path (g .B·TimeBook .admits b);
   edition = refl;
 }

@@ -4,4 +4,4 @@ use Rattle.runs.proofs.Ranges.{in-range}
 use Rattle.runs.proofs.events.ranges_stand.Needs as need
 
 pub returns : need.returns
-returns g c = record { ranges = λ b. in-range (g .B·Rows .admits b); edition = refl }
+returns g c = record { ranges = λ b. in-range (g .B·TimeBook .admits b); edition = refl }

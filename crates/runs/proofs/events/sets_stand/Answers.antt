@@ -6,7 +6,7 @@ use Rattle.runs.proofs.events.sets_stand.Needs as need
 
 pub returns : need.returns
 returns g c = record {
-  accepted = λ b sh valid accepted. sets-read (g .B·Rows .admits b) sh valid (accepted-steady sh accepted);
-  steady = λ b. sets-read (g .B·Rows .admits b);
+  accepted = λ b sh valid accepted. sets-read (g .B·TimeBook .admits b) sh valid (accepted-steady sh accepted);
+  steady = λ b. sets-read (g .B·TimeBook .admits b);
   edition = refl;
 }

@@ -6,8 +6,8 @@ use Rattle.runs.proofs.monitor.agreement_stands.Needs as need
 
 pub returns : need.returns
 returns g c = record {
-  accepted = λ b sh valid accepted. agreement (g .B·Rows .admits b) sh valid (accepted-steady sh accepted);
-  steady = λ b. agreement (g .B·Rows .admits b);
+  accepted = λ b sh valid accepted. agreement (g .B·TimeBook .admits b) sh valid (accepted-steady sh accepted);
+  steady = λ b. agreement (g .B·TimeBook .admits b);
   wider = accepted-steady;
   edition = refl;
 }

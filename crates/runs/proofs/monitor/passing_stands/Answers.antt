@@ -4,4 +4,4 @@ use Rattle.runs.proofs.Exact.{passed-are-runs}
 use Rattle.runs.proofs.monitor.passing_stands.Needs as need
 
 pub returns : need.returns
-returns g c = record { exact = λ b. passed-are-runs (g .B·Rows .admits b); edition = refl }
+returns g c = record { exact = λ b. passed-are-runs (g .B·TimeBook .admits b); edition = refl }
