@@ -15,3 +15,6 @@ mod Gathering
 mod Deciding
 mod Unique
 mod Soundness
+mod Pigeons
+mod Successors
+mod Acceptance
