@@ -18,3 +18,5 @@ mod Soundness
 mod Pigeons
 mod Successors
 mod Acceptance
+mod Bounding
+mod Roles
