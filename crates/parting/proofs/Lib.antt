@@ -15,3 +15,8 @@ mod Gathering
 mod Deciding
 mod Unique
 mod Soundness
+mod Pigeons
+mod Successors
+mod Acceptance
+mod Bounding
+mod Roles

@@ -65,7 +65,7 @@ same-place sh v p q hp hq e l =
     let r : p .receiver ≡ q .receiver = cc in
     place-same p q e s r b
 
-turn-label : (m : ℕ) (p : Place) (a : Action) → turn m p ≡ a ∷ [] → a .label ≡ p .branch .label
+pub turn-label : (m : ℕ) (p : Place) (a : Action) → turn m p ≡ a ∷ [] → a .label ≡ p .branch .label
 turn-label m p a e = go (side m p)
   where
     go : Side m p → a .label ≡ p .branch .label

@@ -116,14 +116,14 @@ side m p = first (cases-bool (eqb m (p .sender)))
     first (inr n) = second n (cases-bool (eqb m (p .receiver)))
 
 -- an act of a place is a step of the role there
-abbrev ActAt : ℕ → Place → Act → Type 0
+abbrev pub ActAt : ℕ → Place → Act → Type 0
 ActAt m p a = (a .state ≡ p .state) × (a .next ≡ p .branch .next) × (turn m p ≡ actionOf a ∷ [])
 
-single : {A : Type 0} (a b : A) → List·Memᴰ a (b ∷ []) → a ≡ b
+pub single : {A : Type 0} (a b : A) → List·Memᴰ a (b ∷ []) → a ≡ b
 single a b (List·Memᴰ·head q) = q
 single a b (List·Memᴰ·tail i) = elim i [ ]
 
-act-at : (m : ℕ) (p : Place) (a : Act) → List·Memᴰ a (actsAt m p) → ActAt m p a
+pub act-at : (m : ℕ) (p : Place) (a : Act) → List·Memᴰ a (actsAt m p) → ActAt m p a
 act-at m p a i = go (side m p)
   where
     go : Side m p → ActAt m p a

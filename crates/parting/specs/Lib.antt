@@ -9,3 +9,6 @@ pub mod Lists
 pub mod Sets
 pub mod Seen
 pub mod Graph
+pub mod Tables
+pub mod Parts
+pub mod Whole

@@ -146,7 +146,7 @@ fn visit(
 
 // A role's sets, each judged and then followed in the order in which they are found. The slots of the queue
 // and of the acts are the caller's.
-fn explore(
+pub(crate) fn explore(
     view: View<'_>,
     role: u8,
     labels: u8,
@@ -158,7 +158,7 @@ fn explore(
     requires { ⌜ length (now (view .acts)) ≤ length (now slots) ⌝ }
     requires { ⌜ length (now waiting) ≡ 32 ⌝ }
     ensures value { λ r. ⌜ answered r ≡ familyOf role (seen (view .entry)) labels ⌝ }
-    ensures few { λ r. ⌜ made r (λ s. s .count ≤ 32) ⌝ }
+    ensures few { λ r. ⌜ made r (λ s. (s .count ≤ 32) × (length (s .masks) ≡ 32)) ⌝ }
 {
     let mut queue = Queue::new(waiting);
     let mut sets = start_sets();

@@ -86,5 +86,5 @@ returns c =
     let l = c .loop-mask in
     record {
       value = explored-all (l .sets) (c .args .role) (seen (c .args .view)) (c .args .labels) (l .set) (l .queue) (l .inv) (c .in-rest .ensures tt .held .0);
-      few = l .inv .ready .few;
+      few = (l .inv .ready .few, l .inv .ready .full);
     }

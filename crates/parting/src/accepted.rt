@@ -1,0 +1,12 @@
+//! A sheet that has been accepted.
+
+use crate::local::Part;
+use sheet::counts::Counts;
+
+/// A sheet that has been accepted: its counts and each role's part, in tables of its own.
+/// It is neither `Copy` nor `Clone`, since opening a session uses it up.
+#[derive(Drop)]
+pub struct Accepted {
+    pub(crate) counts: Counts,
+    pub(crate) parts: [Part; 6],
+}
