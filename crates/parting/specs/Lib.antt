@@ -13,3 +13,4 @@ pub mod Tables
 pub mod Parts
 pub mod Whole
 pub mod Local
+pub mod Blank

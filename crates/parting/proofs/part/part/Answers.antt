@@ -5,11 +5,11 @@ use native.Mathlib.Omega.{arith}
 use lib.ListN.{length, take, length-take, length-set, getD}
 use Rattle.reading.specs.Reads.{sheetOf}
 use Rattle.protocol.specs.Places.{Place}
+use Rattle.parting.specs.Blank.{noPart}
 use Rattle.parting.specs.Bounds.{SmallPlaces}
 use Rattle.parting.specs.Family.{viewOf, familyOf, stopped}
 use Rattle.parting.specs.Parts.{Parted, family}
 use Rattle.parting.specs.View.{placeOf, places}
-use Rattle.parting.proofs.Blanks.{noPart}
 use Rattle.parting.proofs.Bounding.{small-places}
 use Rattle.parting.proofs.Decoding.{sheet-valid}
 use Rattle.parting.proofs.Roles.{faults-more, faults-stop, faults-all, faults-start, tabled-more, tabled-part, tabled-local, stopped-refused}
@@ -79,3 +79,7 @@ returns c =
         },
       );
     }
+
+pub ghost-result : need.ghost-result
+ghost-result c =
+    omega (arith, ap (λ k. k .roles) (c .counts-counts .ensures .value), sheet-valid (c .args .sheet) .role-count .1)
