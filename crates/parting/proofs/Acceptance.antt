@@ -317,7 +317,7 @@ module _ (sh : Sheet) (valid : Valid sh) (m : ℕ) where
   unfolding familyOf
   family-ends = ending 33 0 (startSet v ∷ []) kept-start (omega arith)
 
-  label-known : {s t : ℕ} {a : Action} {l : ℕ} → Step sh m s a t → a .label ≡ l → l < length (sh .labels)
+  pub label-known : {s t : ℕ} {a : Action} {l : ℕ} → Step sh m s a t → a .label ≡ l → l < length (sh .labels)
   label-known {a = a} st e =
       let known = good-branch sh valid (st .place) (st .has) .label in
       omega (arith, known, turn-label m (st .place) a (st .acts), e)

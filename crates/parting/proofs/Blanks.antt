@@ -1,10 +1,8 @@
 -- What stands for an element past the end of a list.
 use mathlib.Core.Bool.{false}
-use mathlib.Core.List.{[]}
 use Rattle.sheet.specs.declared.branch.Branch.{Branch}
 use Rattle.parting.specs.declared.act.Act.{Act}
 use Rattle.parting.specs.declared.act.Way.the-variants.{Sends}
-use Rattle.parting.specs.declared.local.Part.{Part}
 use Rattle.parting.specs.declared.transition.Transition.{Transition}
 
 abbrev pub noAct : Act
@@ -15,6 +13,3 @@ noBranch = record { label = 0; next = 0; send = 0; receive = 0; resets = 0 }
 
 abbrev pub noTransition : Transition
 noTransition = record { state = 0; sender = 0; receiver = 0; branch = noBranch }
-
-abbrev pub noPart : Part
-noPart = record { sets = []; count = 0 }

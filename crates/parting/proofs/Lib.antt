@@ -19,4 +19,5 @@ mod Pigeons
 mod Successors
 mod Acceptance
 mod Bounding
+mod Locals
 mod Roles

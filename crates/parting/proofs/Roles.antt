@@ -15,9 +15,11 @@ use Rattle.protocol.specs.Accepted.{HasPart, Accepted}
 use Rattle.parting.specs.declared.fault.PartFault.{PartFault}
 use Rattle.parting.specs.declared.local.Part.{Part}
 use Rattle.parting.specs.Family.{viewOf, Found, sets, stopped}
+use Rattle.parting.specs.Local.{LocalOf}
 use Rattle.parting.specs.Parts.{Parted, family, faultFrom, partFault}
 use Rattle.parting.specs.View.{places}
 use Rattle.parting.proofs.Acceptance.{accepted, refused, has-part}
+use Rattle.parting.proofs.Locals.{local-of}
 
 module _ (sh : Sheet) where
   pub faults-more : (m n : ℕ) (found : List ℕ) → m < n → family sh m ≡ sets found → faultFrom sh m (n - m) ≡ faultFrom sh (m + 1) (n - (m + 1))
@@ -51,6 +53,9 @@ module _ (sh : Sheet) where
 
   pub tabled-part : Valid sh → (m : ℕ) (part : Part) → Tabled m part → HasPart sh m
   tabled-part valid m part t = has-part sh valid m (t .found) (accepted sh valid m (t .found) (t .are))
+
+  pub tabled-local : Valid sh → (m : ℕ) (part : Part) → Tabled m part → LocalOf sh m part
+  tabled-local valid m part t = local-of sh valid m (t .found) (accepted sh valid m (t .found) (t .are)) part (t .table)
 
   pub stopped-refused : Valid sh → (m : ℕ) (f : PartFault) → m < length (sh .roles) → family sh m ≡ stopped f → Accepted sh → ⊥
   stopped-refused valid m f h e all = refused sh valid m f e (all m h)

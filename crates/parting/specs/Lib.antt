@@ -12,3 +12,5 @@ pub mod Graph
 pub mod Tables
 pub mod Parts
 pub mod Whole
+pub mod Local
+pub mod Blank

@@ -1,5 +1,6 @@
 //! A sheet that has been accepted.
 
+ghost use Prim.Native.Nat.{_≤_};
 use crate::local::Part;
 use sheet::counts::Counts;
 
@@ -9,4 +10,5 @@ use sheet::counts::Counts;
 pub struct Accepted {
     pub(crate) counts: Counts,
     pub(crate) parts: [Part; 6],
+    ghost few: { counts .roles ≤ 6 },
 }

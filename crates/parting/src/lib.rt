@@ -13,6 +13,7 @@ mod judging;
 pub mod local;
 mod masks;
 pub mod part;
+mod parts;
 mod point;
 mod role;
 mod successor;

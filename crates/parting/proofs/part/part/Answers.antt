@@ -5,14 +5,14 @@ use native.Mathlib.Omega.{arith}
 use lib.ListN.{length, take, length-take, length-set, getD}
 use Rattle.reading.specs.Reads.{sheetOf}
 use Rattle.protocol.specs.Places.{Place}
+use Rattle.parting.specs.Blank.{noPart}
 use Rattle.parting.specs.Bounds.{SmallPlaces}
 use Rattle.parting.specs.Family.{viewOf, familyOf, stopped}
 use Rattle.parting.specs.Parts.{Parted, family}
 use Rattle.parting.specs.View.{placeOf, places}
-use Rattle.parting.proofs.Blanks.{noPart}
 use Rattle.parting.proofs.Bounding.{small-places}
 use Rattle.parting.proofs.Decoding.{sheet-valid}
-use Rattle.parting.proofs.Roles.{faults-more, faults-stop, faults-all, faults-start, tabled-more, tabled-part, stopped-refused}
+use Rattle.parting.proofs.Roles.{faults-more, faults-stop, faults-all, faults-start, tabled-more, tabled-part, tabled-local, stopped-refused}
 use Rattle.parting.proofs.part.part.Needs as need
 
 pub loop-role-holds : need.loop-role-holds
@@ -72,6 +72,14 @@ returns c =
       judged = sym (faults-all sh (l .role) (length (sh .roles)) reached) ∙ l .inv .1;
       whole = (
         λ m h. tabled-part sh (sheet-valid s) m (getD (l .parts) m noPart) (l .inv .2 m (omega arith) noPart),
-        record { counts = c .counts-counts .ensures .value; parts = λ m h d. l .inv .2 m (omega arith) d },
+        record {
+          counts = c .counts-counts .ensures .value;
+          local = λ m h d. tabled-local sh (sheet-valid s) m (getD (l .parts) m d) (l .inv .2 m (omega arith) d);
+          found = λ m h d. l .inv .2 m (omega arith) d;
+        },
       );
     }
+
+pub ghost-result : need.ghost-result
+ghost-result c =
+    omega (arith, ap (λ k. k .roles) (c .counts-counts .ensures .value), sheet-valid (c .args .sheet) .role-count .1)
