@@ -12,3 +12,4 @@ pub mod Graph
 pub mod Tables
 pub mod Parts
 pub mod Whole
+pub mod Handed
