@@ -1,2 +1,3 @@
+mod Blanks
 mod Handed
 mod Numbered

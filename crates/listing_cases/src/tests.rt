@@ -98,6 +98,20 @@ STATE 1 OVEN to MAIN
   HOT, then state 2: send in row 1, take any time, resets no clock
   FAULT, then state 2: send any time, take any time, resets no clock
 STATE 2 end
+PART MAIN
+  set 0, states 0: sends to OVEN
+    HEAT any time, resets its clock, then set 1
+  set 1, states 1: takes from OVEN
+    HOT any time, keeps its clock, then set 2
+    FAULT any time, keeps its clock, then set 2
+  set 2, states 2: finished
+PART OVEN
+  set 0, states 0: takes from MAIN
+    HEAT in row 0, resets its clock, then set 1
+  set 1, states 1: sends to MAIN
+    HOT in row 1, keeps its clock, then set 2
+    FAULT any time, keeps its clock, then set 2
+  set 2, states 2: finished
 ";
 
 // The oven sheet with some of its bytes changed, from that offset on.

@@ -14,3 +14,4 @@ pub mod Parts
 pub mod Whole
 pub mod Local
 pub mod Blank
+pub mod Handed

@@ -9,6 +9,7 @@ mod family;
 pub mod fault;
 mod found;
 mod graph;
+pub mod handed;
 mod judging;
 pub mod local;
 mod masks;
