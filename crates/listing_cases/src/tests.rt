@@ -1,4 +1,4 @@
-//! The oven sheet, whole and damaged.
+//! The oven sheet, whole and damaged, and a sheet that has no parts.
 
 ghost use Prim.Native.Nat.{_+_, _≤_};
 ghost use lib.ListN.{length};
@@ -114,6 +114,89 @@ PART OVEN
   set 2, states 2: finished
 ";
 
+// Three modules: after NO the module C is never told that nothing comes.
+const UNTOLD: [u8; 63] = [
+    0x01,
+    0x03,
+    0x02,
+    0x03,
+    0x00,
+    0x00,
+    0x25,
+    0x00,
+    0x01,
+    0x00,
+    0x26,
+    0x00,
+    0x01,
+    0x00,
+    0x27,
+    0x00,
+    0x01,
+    0x00,
+    0x28,
+    0x00,
+    0x02,
+    0x00,
+    0x2A,
+    0x00,
+    0x02,
+    0x00,
+    0x2C,
+    0x00,
+    0x0C,
+    0x00,
+    0x38,
+    0x00,
+    0x07,
+    0x00,
+    0x3F,
+    0x00,
+    0x00,
+    0x41,
+    0x42,
+    0x43,
+    0x47,
+    0x4F,
+    0x4E,
+    0x4F,
+    0x00,
+    0x01,
+    0x00,
+    0x01,
+    0xFF,
+    0xFF,
+    0x00,
+    0x01,
+    0x02,
+    0xFF,
+    0xFF,
+    0x00,
+    0x01,
+    0x02,
+    0x00,
+    0x02,
+    0xFF,
+    0xFF,
+    0x00,
+];
+
+const UNTOLD_PAGE: &str = "\
+SHEET 3 modules, 2 labels, 3 states, 0 time rows
+MODULE 0 A
+MODULE 1 B
+MODULE 2 C
+LABEL 0 GO
+LABEL 1 NO
+STATE 0 A to B
+  GO, then state 1: send any time, take any time, resets no clock
+  NO, then state 2: send any time, take any time, resets no clock
+STATE 1 B to C
+  GO, then state 2: send any time, take any time, resets no clock
+STATE 2 end
+STOP 24 UNTOLD 2 0
+";
+
 // The oven sheet with some of its bytes changed, from that offset on.
 fn damaged(at: usize, bytes: &[u8]) -> [u8; 76]
     requires { ⌜ at + length (now bytes) ≤ 76 ⌝ }
@@ -131,6 +214,11 @@ fn check_listed(rt: &LibcRuntime, input: &[u8], told: &str) -> Result<(), Fail> 
 #[test]
 fn page_of_the_oven(rt: LibcRuntime) -> Result<(), Fail> {
     check_listed(&rt, &OVEN, PAGE)
+}
+
+#[test]
+fn stop_of_parting_after_the_page(rt: LibcRuntime) -> Result<(), Fail> {
+    check_listed(&rt, &UNTOLD, UNTOLD_PAGE)
 }
 
 #[test]
