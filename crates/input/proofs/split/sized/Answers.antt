@@ -7,8 +7,8 @@ pub returns-then-size-rest : goal.returns-then-size-rest
 returns-then-size-rest c =
     let bytes = c.args.bytes.now in
     let enough : 2 ≤ length bytes = omega (arith, ltb-false) in
-    let size : c.from-be-bytes-size.result ≡ get_or bytes 0 0 * 256 + get_or bytes 1 0 = c.from-be-bytes-size.ensures in
-    let fits : c.from-be-bytes-size.result < 2 ^ 16 = omega (arith, size, c.type-inv.bytes 0, c.type-inv.bytes 1) in
+    let size : c.from_be_bytes-size.result ≡ get_or bytes 0 0 * 256 + get_or bytes 1 0 = c.from_be_bytes-size.ensures in
+    let fits : c.from_be_bytes-size.result < 2 ^ 16 = omega (arith, size, c.type-inv.bytes 0, c.type-inv.bytes 1) in
     let front = c.split-at.ensures.front-len in
     (omega (arith, front, fits), sized_is bytes _ _ _ enough (λ i. omega (arith, c.type-inv.bytes i)) size front (sym c.split-at.ensures.by_index.0 ∙ take_rest bytes 2))
 
@@ -17,6 +17,6 @@ returns-else-size-rest c = λ x rest h e.
     let bytes = c.args.bytes.now in
     let p = sized_parts bytes x rest e in
     let q = sized_within bytes x rest e in
-    let size : c.from-be-bytes-size.result ≡ get_or bytes 0 0 * 256 + get_or bytes 1 0 = c.from-be-bytes-size.ensures in
+    let size : c.from_be_bytes-size.result ≡ get_or bytes 0 0 * 256 + get_or bytes 1 0 = c.from_be_bytes-size.ensures in
     let left : length (take (length bytes - 2) (drop 2 bytes)) ≡ length (drop 2 bytes) = ap length (take_rest bytes 2) in
     omega (arith, p.0, q.1, size, left, c.if-size-rest.false)

@@ -24,12 +24,12 @@ returns-in-err-tick c =
 pub returns-then-events-ne0 : goal.returns-then-events-ne0
 returns-then-events-ne0 c = λ s b t es laid.
     c.if-events-ne0.true
-    (split_whole _ _ _ _ _ _ _ c.in-ok-sheet.ensures.1 c.in-ok-book.ensures.1 c.in-ok-tick.ensures.1 s b t es laid)
+    (split_whole _ _ _ _ _ _ _ c.in_ok-sheet.ensures.1 c.in_ok-book.ensures.1 c.in_ok-tick.ensures.1 s b t es laid)
 
 pub returns : goal.returns
 returns c =
     let input = c.args.input.now in
-    let ranges : All (λ b. b < 256) input = All-from_get_or (λ b. b < 256) input 0 (λ i _. omega (arith, c.type-inv.input i)) in
+    let ranges : All (λ b. b < 256) input = All-from_get_or (λ b. b < 256) input 0 (λ i _. omega (arith, c.ok.input i)) in
     let first = c.in-ok-sheet.ensures in
     let second = c.in-ok-book.ensures in
     let third = c.in-ok-tick.ensures in

@@ -31,5 +31,5 @@ returns-then-bytes-first-offset c =
 pub returns : goal.returns
 unfolding header_fault
 returns c =
-    let e : count_fault (counts c.args.bytes.now) ≡ None = sym (ap count_fault c.counts-in-counts.ensures) ∙ sym c.in-ok-check-counts.ensures in
+    let e : count_fault (counts c.args.bytes.now) ≡ None = sym (ap count_fault c.counts_in-counts.ensures) ∙ sym c.in_ok-check_counts.ensures in
     record { judged = simp first_unless (rw e (grind (arith, nat_tests))); value = search rules }

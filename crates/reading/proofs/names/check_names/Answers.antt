@@ -27,9 +27,9 @@ returns-then-repeats c =
     let bytes = c.args.bytes.now in
     let ss = table bytes in
     let i = c.loop-pair.pair in
-    let within : i < length ss = omega (arith, length-table bytes, c.requires.1.1) in
+    let within : i < length ss = omega (arith, length-table bytes, c.requires.first_le_end.1) in
     let judged : byte_fault (get_or ss i nowhere).offset (cut bytes (get_or ss i nowhere)) ≡ None =
-    judged_at byte_fault bytes ss i _ _ _ c.span-at.ensures.value c.piece-at.ensures.value c.in-ok-check-bytes.ensures in
+    judged_at byte_fault bytes ss i _ _ _ c.span_at.ensures.value c.piece_at.ensures.value c.in-ok-check-bytes.ensures in
     sym (name_twice bytes ss i c.args.end c.loop-pair-test.true within _ judged (sym c.if-repeats.ensures)) ∙ c.loop-pair.invariant
 
 pub loop-pair-preserved : goal.loop-pair-preserved
@@ -37,8 +37,8 @@ loop-pair-preserved c =
     let bytes = c.args.bytes.now in
     let ss = table bytes in
     let i = c.loop-pair.pair in
-    let within : i < length ss = omega (arith, length-table bytes, c.requires.1.1) in
+    let within : i < length ss = omega (arith, length-table bytes, c.requires.first_le_end.1) in
     let judged : byte_fault (get_or ss i nowhere).offset (cut bytes (get_or ss i nowhere)) ≡ None =
-    judged_at byte_fault bytes ss i _ _ _ c.span-at.ensures.value c.piece-at.ensures.value c.in-ok-check-bytes.ensures in
+    judged_at byte_fault bytes ss i _ _ _ c.span_at.ensures.value c.piece_at.ensures.value c.in-ok-check-bytes.ensures in
     ap (λ names. name_fault bytes (i + 1) names (between (i + 1) c.args.end ss)) (earlier_more bytes ss c.args.first i c.loop-pair.auto.pair within)
     ∙ sym (name_more bytes ss i c.args.end c.loop-pair-test.true within _ judged (sym c.if-repeats.ensures)) ∙ c.loop-pair.invariant

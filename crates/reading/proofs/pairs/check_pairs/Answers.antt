@@ -31,34 +31,34 @@ ends_by limit at s i names e =
 pub returns-then-not-placed : goal.returns-then-not-placed
 returns-then-not-placed c =
     let bytes = c.args.bytes.now in
-    let within : c.loop-pair.pair < length (table bytes) = omega (arith, length-table bytes, c.piece-count-count.ensures, ap piece_count_in c.requires.1) in
-    sym (here _ _ _ c.loop-pair.at (table bytes) _ c.span-at-span.ensures.value within (sym c.if-not-placed.ensures))
+    let within : c.loop-pair.pair < length (table bytes) = omega (arith, length-table bytes, c.piece_count-count.ensures, ap piece_count_in c.requires.counts_value) in
+    sym (here _ _ _ c.loop-pair.at (table bytes) _ c.span_at-span.ensures.value within (sym c.if-not-placed.ensures))
     ∙ c.loop-pair.invariant.0
 
 pub loop-pair-preserved : goal.loop-pair-preserved
 loop-pair-preserved c =
     let bytes = c.args.bytes.now in
-    let within : c.loop-pair.pair < length (table bytes) = omega (arith, length-table bytes, c.piece-count-count.ensures, ap piece_count_in c.requires.1) in
+    let within : c.loop-pair.pair < length (table bytes) = omega (arith, length-table bytes, c.piece_count-count.ensures, ap piece_count_in c.requires.counts_value) in
     let passed = sym c.if-not-placed.ensures in (
-      sym (more _ _ _ c.loop-pair.at (table bytes) _ c.span-at-span.ensures.value within passed) ∙ c.loop-pair.invariant.0,
-      ends_by _ c.loop-pair.at c.span-at-span.result _ _ passed,
+      sym (more _ _ _ c.loop-pair.at (table bytes) _ c.span_at-span.ensures.value within passed) ∙ c.loop-pair.invariant.0,
+      ends_by _ c.loop-pair.at c.span_at-span.result _ _ passed,
     )
 
 pub loop-pair-init : goal.loop-pair-init
 loop-pair-init c =
     let bytes = c.args.bytes.now in
-    let names = c.name-count-names.ensures ∙ ap name_count_of c.requires.1 in
-    let at = c.first-offset-at.ensures ∙ ap (λ k. begin (piece_count_in k)) c.requires.1 in (
-      ap (λ n. pair_fault (length bytes) n 0 c.first-offset-at.result (table bytes)) names
+    let names = c.name_count-names.ensures ∙ ap name_count_of c.requires.counts_value in
+    let at = c.first_offset-at.ensures ∙ ap (λ k. begin (piece_count_in k)) c.requires.counts_value in (
+      ap (λ n. pair_fault (length bytes) n 0 c.first_offset-at.result (table bytes)) names
           ∙ ap (λ o. pair_fault (length bytes) (name_count_of (counts bytes)) 0 o (table bytes)) at,
-      omega (arith, at, c.requires.0),
+      omega (arith, at, c.requires.paired),
     )
 
 pub returns-then-at-limit : goal.returns-then-at-limit
 returns-then-at-limit c =
     let bytes = c.args.bytes.now in
-    let all : length (table bytes) ≤ c.loop-pair.pair = omega (arith, length-table bytes, c.piece-count-count.ensures, ap piece_count_in c.requires.1) in
-    let last : c.loop-pair.pair ≡ c.piece-count-count.result = omega arith in
+    let all : length (table bytes) ≤ c.loop-pair.pair = omega (arith, length-table bytes, c.piece_count-count.ensures, ap piece_count_in c.requires.counts_value) in
+    let last : c.loop-pair.pair ≡ c.piece_count-count.result = omega arith in
     ap (λ k. Some (Pair k)) (sym last)
     ∙ sym (cond-false _ _ _ (ne_eqb _ _ c.if-at-limit.true))
     ∙ sym (at_drop_all (pair_fault _ _ _ c.loop-pair.at) (table bytes) c.loop-pair.pair all)
@@ -67,7 +67,7 @@ returns-then-at-limit c =
 pub returns : goal.returns
 returns c =
     let bytes = c.args.bytes.now in
-    let all : length (table bytes) ≤ c.loop-pair.pair = omega (arith, length-table bytes, c.piece-count-count.ensures, ap piece_count_in c.requires.1) in
+    let all : length (table bytes) ≤ c.loop-pair.pair = omega (arith, length-table bytes, c.piece_count-count.ensures, ap piece_count_in c.requires.counts_value) in
     sym (cond-true _ _ (Some (Pair c.loop-pair.pair)) (eq-eqb _ _ c.if-at-limit.false))
     ∙ sym (at_drop_all (pair_fault _ _ _ c.loop-pair.at) (table bytes) c.loop-pair.pair all)
     ∙ c.loop-pair.invariant.0

@@ -11,9 +11,9 @@ slice-bounds-result-end c =
 pub returns : goal.returns
 returns c =
     let bytes = c.args.bytes.now in
-    let s = c.span-at-offset.result in
+    let s = c.span_at-offset.result in
     let size : s.offset + s.size - s.offset ≡ s.size = omega arith in
     record {
-      value = ap (λ n. take n (drop s.offset bytes)) size ∙ ap (cut bytes) c.span-at-offset.ensures.value;
-      size = simp length-take (omega (arith, size, c.span-at-offset.ensures.bound.1));
+      value = ap (λ n. take n (drop s.offset bytes)) size ∙ ap (cut bytes) c.span_at-offset.ensures.value;
+      size = simp length-take (omega (arith, size, c.span_at-offset.ensures.bound.1));
     }

@@ -5,5 +5,5 @@ use Rattle.reading.proofs.pairs.span_at.Goals as goal
 
 pub returns : goal.returns
 returns c =
-    let at = table_at c.args.bytes.now c.args.pair c.requires.1 nowhere in
-    record { value = cc; bound = (c.number-at.ensures.bound, c.number-at-2.ensures.bound) }
+    let at = table_at c.args.bytes.now c.args.pair c.requires.pair_bound nowhere in
+    record { value = cc; bound = (c.number_at.ensures.bound, c.number_at-2.ensures.bound) }

@@ -67,11 +67,11 @@ pub returns : goal.returns
 unfolding fault
 returns c =
     let bytes = c.args.bytes.now in
-    let k = c.in-ok-counts.counts in
-    let is : k ≡ counts bytes = c.in-ok-counts.ensures.value.0 in
-    let header : header_fault bytes ≡ None = sym c.in-ok-counts.ensures.judged in
-    let pairs : table_fault bytes ≡ None = sym c.in-ok-check-pairs.ensures in
-    let roles : name_fault bytes 0 [] (role_spans bytes) ≡ None = sym (roles_are bytes k is) ∙ sym c.in-ok-check-names.ensures in
+    let k = c.in_ok-counts.counts in
+    let is : k ≡ counts bytes = c.in_ok-counts.ensures.value.0 in
+    let header : header_fault bytes ≡ None = sym c.in_ok-counts.ensures.judged in
+    let pairs : table_fault bytes ≡ None = sym c.in_ok-check_pairs.ensures in
+    let roles : name_fault bytes 0 [] (role_spans bytes) ≡ None = sym (roles_are bytes k is) ∙ sym c.in_ok-check_names.ensures in
     let labels : name_fault bytes (counts bytes).roles [] (label_spans bytes) ≡ None =
     sym (labels_are bytes k is c.name-count.result c.name-count.ensures) ∙ sym c.in-ok-check-names-2.ensures in
     rw (header, pairs, roles, labels) (c.check-states.ensures ∙ ap (λ x. states_fault x bytes (state_spans bytes)) is)

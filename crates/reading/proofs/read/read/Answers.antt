@@ -37,6 +37,6 @@ returns-in-err-judge c =
 pub returns : goal.returns
 returns c =
     let bytes = c.args.bytes.now in
-    let e : fault bytes ≡ None = sym c.in-ok-judge.ensures in
+    let e : fault bytes ≡ None = sym c.in_ok-judge.ensures in
     let fits : Bytes bytes = All-from_get_or (λ b. b < 256) bytes 0 (λ i _. omega (arith, c.type-inv.bytes i)) in
     record { judged = sym e; whole = reads bytes c.keep.result fits e c.keep.ensures }

@@ -36,17 +36,17 @@ loop-pair-preserved c =
     let ss = table bytes in
     let i = c.loop-pair.pair in
     let k = c.args.counts in
-    let within : i < length ss = omega (arith, length-table bytes, c.piece-count-pair-end.ensures, ap piece_count_in c.requires.1) in
+    let within : i < length ss = omega (arith, length-table bytes, c.piece_count-pair-end.ensures, ap piece_count_in c.requires.counts_value) in
     let judged : state_fault k (get_or ss i nowhere).offset (state_at bytes (get_or ss i nowhere)) ≡ None =
-    judged_at (λ o p. state_fault k o (state_of p)) bytes ss i _ _ _ c.span-at.ensures.value c.piece-at.ensures.value c.in-ok-check-state.ensures in
+    judged_at (λ o p. state_fault k o (state_of p)) bytes ss i _ _ _ c.span_at.ensures.value c.piece-at.ensures.value c.in-ok-check-state.ensures in
     sym (more k bytes ss i within judged) ∙ c.loop-pair.invariant
 
 pub loop-pair-init : goal.loop-pair-init
 loop-pair-init c =
-    ap (λ n. states_fault c.args.counts c.args.bytes.now (drop n (table c.args.bytes.now))) (c.name-count-pair.ensures ∙ ap name_count_of c.requires.1)
+    ap (λ n. states_fault c.args.counts c.args.bytes.now (drop n (table c.args.bytes.now))) (c.name_count-pair.ensures ∙ ap name_count_of c.requires.counts_value)
 
 pub returns : goal.returns
 returns c =
     let bytes = c.args.bytes.now in
-    let all : length (table bytes) ≤ c.loop-pair.pair = omega (arith, length-table bytes, c.piece-count-pair-end.ensures, ap piece_count_in c.requires.1) in
+    let all : length (table bytes) ≤ c.loop-pair.pair = omega (arith, length-table bytes, c.piece_count-pair-end.ensures, ap piece_count_in c.requires.counts_value) in
     sym (at_drop_all (states_fault c.args.counts bytes) (table bytes) c.loop-pair.pair all) ∙ c.loop-pair.invariant

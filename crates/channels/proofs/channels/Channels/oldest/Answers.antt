@@ -8,5 +8,5 @@ returns-in-err-i c = c.from-residual.ensures ∙ sym (ap first (no_channel c.arg
 
 pub returns : goal.returns
 returns c =
-    let e = c.in-ok-i.ensures in
-    c.oldest.ensures ∙ sym (ap first (channel_at c.args.self.now c.args.from c.args.to c.in-ok-i.i e.0.0 e.0.1 e.1))
+    let e = c.in_ok-i.ensures in
+    c.oldest.ensures ∙ sym (ap first (channel_at c.args.self.now c.args.from c.args.to c.in_ok-i.i e.0.0 e.0.1 e.1))

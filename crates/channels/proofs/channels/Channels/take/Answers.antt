@@ -24,16 +24,16 @@ returns-in-err-message c =
 pub returns : goal.returns
 returns c =
     let ch = c.args.self.now in
-    let ix = c.in-ok-i.ensures in
+    let ix = c.in_ok-i.ensures in
     let q = c.resume-queue.result in
     let q' = c.pop.new.self in
     let was = c.resume-queue.ensures in
-    let went = c.in-ok-message.ensures in
+    let went = c.in_ok-message.ensures in
     let new = q'.slots.now in
     let p = c.of.result in
     let eight : length q.slots.now ≡ 8 = search rules in
     let eight' : length new ≡ 8 = ap length went.slots ∙ eight in
-    let is = channel_resumed ch c.args.from c.args.to c.in-ok-i.i ix.0.0 ix.0.1 ix.1 q.slots.now q.first q.count was.slots was.place.0 was.place.1 in
+    let is = channel_resumed ch c.args.from c.args.to c.in_ok-i.i ix.0.0 ix.0.1 ix.1 q.slots.now q.first q.count was.slots was.place.0 was.place.1 in
     let hf : p.first < length new = omega (arith, c.of.ensures.0, q'.begins, eight') in
     let hn : p.count ≤ length new = omega (arith, c.of.ensures.1, q'.fits) in
     let less : ring new p ≡ drop 1 (channel ch c.args.from c.args.to) =
@@ -41,6 +41,6 @@ returns c =
     ∙ sym (ap (drop 1) (is ∙ went.held)) in
     record {
       answer = sym (ap first (is ∙ went.held));
-      rest = changed ch c.args.from c.args.to c.in-ok-i.i ix.0.0 ix.0.1 ix.1 new p (drop 1) (search rules) (search rules) less;
+      rest = changed ch c.args.from c.args.to c.in_ok-i.i ix.0.0 ix.0.1 ix.1 new p (drop 1) (search rules) (search rules) less;
       kept = tt;
     }

@@ -10,8 +10,8 @@ counts-in-requires c = omega (arith, pairs_there c.bytes.result.now c.bytes.ensu
 
 pub returns : goal.returns
 returns c =
-    let read = c.counts-in.ensures ∙ ap counts c.bytes.ensures.value in
+    let read = c.counts_in.ensures ∙ ap counts c.bytes.ensures.value in
     record {
-      value = c.counts-in.ensures ∙ counts_are c.bytes.result.now c.bytes.ensures.sound ∙ ap (λ b. counts_of (model b)) c.bytes.ensures.value;
+      value = c.counts_in.ensures ∙ counts_are c.bytes.result.now c.bytes.ensures.sound ∙ ap (λ b. counts_of (model b)) c.bytes.ensures.value;
       read = read;
     }

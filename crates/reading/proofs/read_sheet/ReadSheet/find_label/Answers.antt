@@ -56,7 +56,7 @@ loop-label-preserved c =
     let l = c.loop-label.label in
     let other : same (get_or sh.labels l []) name ≡ false =
     compared c.bytes-bytes.result.now _ c.bytes-bytes.ensures.value c.bytes-bytes.ensures.sound c.counts-counts.result c.counts-counts.ensures.read l c.loop-label-test.true
-    false c.piece-at.result.now name c.if-same-name.ensures.value c.piece-at.ensures.value in
+    false c.piece_at.result.now name c.if-same_name.ensures.value c.piece_at.ensures.value in
     below_more (λ k. same (get_or sh.labels k []) name ≡ true → ⊥) l c.loop-label.invariant (λ t. both_ways _ other t)
 
 pub returns : goal.returns

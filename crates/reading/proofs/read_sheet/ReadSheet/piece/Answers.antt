@@ -69,8 +69,8 @@ returns c =
     let at : get_or (table bytes) (c.place-first.result.0 + n) nowhere ≡ s = ap (λ f. get_or (table bytes) (f + n) nowhere) there.1 in
     let seen-is : seen c.named.result ≡ record { kind = kind; bytes = cut bytes s; offset = s.offset } =
     c.named.ensures
-    ∙ ap (λ p. record { kind = kind; bytes = p; offset = c.span-at.result.offset }) (c.piece-at.ensures.value ∙ ap (cut bytes) at)
-    ∙ ap (λ x. record { kind = kind; bytes = cut bytes s; offset = x.offset }) (c.span-at.ensures.value ∙ at) in
+    ∙ ap (λ p. record { kind = kind; bytes = p; offset = c.span_at.result.offset }) (c.piece_at.ensures.value ∙ ap (cut bytes) at)
+    ∙ ap (λ x. record { kind = kind; bytes = cut bytes s; offset = x.offset }) (c.span_at.ensures.value ∙ at) in
     record {
       value = within bytes clean kind n there.0 (seen c.named.result) seen-is ∙ ap (λ b. handed (model b) kind n) is;
       own =
