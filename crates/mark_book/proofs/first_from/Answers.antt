@@ -14,8 +14,8 @@ loop-mark-preserved c =
     let x = (get_or ms i no_mark).value in
     elim c.if-mark-row.branch [
       | then-mark-row+then-value-mark w ↦
-          let is : min (unwrap_or c.loop-mark.first x) x ≡ w.min.result = ap (λ n. min n x) (sym w.unwrap-or.ensures) ∙ sym w.min.ensures in
-          let taken = mark_taken ms i row v x c.loop-mark.first (w.if-mark-row.true, refl) (omega (arith, w.if-value-mark.true)) (omega (arith, is, w.min.type-inv)) c.loop-mark.invariant in
+          let is : min (unwrap_or c.loop-mark.first x) x ≡ w.min.result = ap (λ n. min n x) (sym w.unwrap_or.ensures) ∙ sym w.min.ensures in
+          let taken = mark_taken ms i row v x c.loop-mark.first (w.if-mark-row.true, refl) (omega (arith, w.if-value-mark.true)) (omega (arith, is, w.min.type_inv)) c.loop-mark.invariant in
           subst (Next (Marked ms (i + 1) row) v) (ap Some is ∙ sym w.first-is) taken
       | else-mark-row w ↦
           subst (Next (Marked ms (i + 1) row) v) (sym w.first-is) (mark_passed ms i row v c.loop-mark.first

@@ -29,11 +29,11 @@ window_legal = refl
 refused : (e : BookFault) (o : Option BookFault) → Some e ≡ o → o ≡ None → ⊥
 refused e o p q = let z : ◌≡◌ {A = ℕ} 0 1 = cc in omega arith
 
-pub returns-in-err-slots : goal.returns-in-err-slots
-returns-in-err-slots c = absurd (refused _ _ c.in-err-slots.ensures.fault slots_legal)
+pub returns-in_err-slots : goal.returns-in_err-slots
+returns-in_err-slots c = absurd (refused _ _ c.in_err-slots.ensures.fault slots_legal)
 
-pub returns-in-err-read : goal.returns-in-err-read
-returns-in-err-read c = absurd (refused _ _ c.in-err-read.ensures.fault window_legal)
+pub returns-in_err-read : goal.returns-in_err-read
+returns-in_err-read c = absurd (refused _ _ c.in_err-read.ensures.fault window_legal)
 
 -- the answers of books that have the rows of these bytes
 slot_next : (b : Slots) → ((u : ℕ) → Same (slots-book.admits b 0 u) (SlotAdmits bytes_of_slot 0 u)) → (v : ℕ) (a o : Option ℕ)
@@ -54,14 +54,14 @@ near_window_holds b m same is v a o n =
 
 pub returns : goal.returns
 returns c =
-    let slots = slot_next c.in-ok-slots.slots (c.in-ok-slots.ensures.book.1 0) in
-    let near-slots = near_slot_next c.in-ok-slots.slots c.over.result (c.in-ok-slots.ensures.book.1 0) c.over.ensures in
-    let windows = near_window_holds c.in-ok-read.field-0 c.over-windows.result (c.in-ok-read.ensures.book.1 0) c.over-windows.ensures in
+    let slots = slot_next c.in_ok-slots.slots (c.in_ok-slots.ensures.book.1 0) in
+    let near_slots = near_slot_next c.in_ok-slots.slots c.over.result (c.in_ok-slots.ensures.book.1 0) c.over.ensures in
+    let windows = near_window_holds c.in_ok-read.field-0 c.over-windows.result (c.in_ok-read.ensures.book.1 0) c.over-windows.ensures in
     let e1 : c.next-early.result ≡ Some 10 = slots 9 _ (Some 10) c.next-early.ensures worked.nexts.0 in
     let e2 : c.next-inside.result ≡ Some 14 = slots 14 _ (Some 14) c.next-inside.ensures worked.nexts.1 in
     let e3 : c.next-late.result ≡ Some 110 = slots 15 _ (Some 110) c.next-late.ensures worked.nexts.2 in
     let e4 : c.next-last.result ≡ None = slots 4294967280 _ None c.next-last.ensures worked.none in
-    let e5 : c.next-near-slots.result ≡ Some 107 = near-slots 18 _ (Some 107) c.next-near-slots.ensures worked.far in
+    let e5 : c.next-near_slots.result ≡ Some 107 = near_slots 18 _ (Some 107) c.next-near_slots.ensures worked.far in
     let h1 : c.holds-below.result ≡ true = windows 18 _ true c.holds-below.ensures worked.within.0 in
     let h2 : c.holds-above.result ≡ true = windows 42 _ true c.holds-above.ensures worked.within.1 in
     let h3 : c.holds-under.result ≡ false = windows 17 _ false c.holds-under.ensures worked.without.0 in

@@ -12,18 +12,18 @@ judged : (g : Over) (bytes : List ℕ) (o : Option BookFault) → o ≡ fault_of
     → Judged g.R.RowKind.size g.R.RowKind.legal bytes o
 judged g bytes = judged_by g.R.RowKind.size g.R.RowKind.rule g.R.RowKind.legal g.R.RowKind.decided bytes
 
-pub overflow-mul-start : goal.overflow-mul-start
-overflow-mul-start g c =
+pub overflow_mul-start : goal.overflow_mul-start
+overflow_mul-start g c =
     let e = row_ends c.size-size.result (length c.args.bytes.now) c.loop-row.row c.loop-row-test.true in
     search rules
 
-pub overflow-add-start : goal.overflow-add-start
-overflow-add-start g c =
+pub overflow_add-start : goal.overflow_add-start
+overflow_add-start g c =
     let e = row_ends c.size-size.result (length c.args.bytes.now) c.loop-row.row c.loop-row-test.true in
     search rules
 
-pub slice-bounds-decode-end : goal.slice-bounds-decode-end
-slice-bounds-decode-end g c =
+pub slice_bounds-decode-end : goal.slice_bounds-decode-end
+slice_bounds-decode-end g c =
     let e = row_ends c.size-size.result (length c.args.bytes.now) c.loop-row.row c.loop-row-test.true in
     search rules
 

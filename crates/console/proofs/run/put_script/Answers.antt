@@ -16,17 +16,17 @@ returns-in-Ok g c =
     let tick = c.args.script.tick in
     let events = events_in c.args.script.events.now in
     let seen = c.in-Ok.seen in
-    let log = c.watch-script.new.log in
-    let shown = c.as-slice.result.now in
+    let log = c.watch_script.new.log in
+    let shown = c.as_slice.result.now in
     let watched = c.in-Ok.ensures in
     -- what the session wrote into the slice is what the log then holds
-    let same : shown ≡ log = c.as-slice.ensures.value ∙ take_at log _ _ (c.watch-script.auto.log ∙ c.as-mut-slice.ensures.len) in
-    let asked = watched.asked ∙ ap calls c.as-mut-slice.ensures.value ∙ c.in-ok-log.ensures in
+    let same : shown ≡ log = c.as_slice.ensures.value ∙ take_at log _ _ (c.watch_script.auto.log ∙ c.as_mut_slice.ensures.len) in
+    let asked = watched.asked ∙ ap calls c.as_mut_slice.ensures.value ∙ c.in_ok-log.ensures in
     let text = transcript seen.counts shown seen.closing in
-    shown_by c.put-transcript.result (said c.args.text.now) _ text (PartsTold g.B.ReadBook.refusal g.B.ReadBook.rowsIn g.B.ReadBook.allows sheet book tick events)
+    shown_by c.put_transcript.result (said c.args.text.now) _ text (PartsTold g.B.ReadBook.refusal g.B.ReadBook.rowsIn g.B.ReadBook.allows sheet book tick events)
     (parts_watched g.B.ReadBook.refusal g.B.ReadBook.rowsIn g.B.ReadBook.allows sheet book tick events text seen.counts log shown seen.closing
     watched.judged watched.whole.0 watched.whole.1 watched.whole.2 watched.whole.3 watched.whole.4 asked same refl)
-    c.put-transcript.ensures
+    c.put_transcript.ensures
 
 pub returns : goal.returns
 returns g c =
@@ -35,6 +35,6 @@ returns g c =
     let tick = c.args.script.tick in
     let events = events_in c.args.script.events.now in
     let text = line_of_stop c.from.result in
-    shown_by c.put-stop.result (said c.args.text.now) _ text (PartsTold g.B.ReadBook.refusal g.B.ReadBook.rowsIn g.B.ReadBook.allows sheet book tick events)
+    shown_by c.put_stop.result (said c.args.text.now) _ text (PartsTold g.B.ReadBook.refusal g.B.ReadBook.rowsIn g.B.ReadBook.allows sheet book tick events)
     (parts_stopped g.B.ReadBook.refusal g.B.ReadBook.rowsIn g.B.ReadBook.allows sheet book tick events text c.in-Err.fault c.in-Err.ensures.judged (ap line_of_stop c.from.ensures))
-    c.put-stop.ensures
+    c.put_stop.ensures

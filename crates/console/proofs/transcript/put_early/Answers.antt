@@ -17,5 +17,5 @@ returns c =
     let head = codes "END " ++ (number ++ codes " ") in
     let x = said c.args.text.now in
     ends c.writeln.result x _ _ (head ++ word) (codes " " ++ (role ++ codes "\n")) _
-    (further x _ _ head word c.in-ok-write.ensures (c.in-ok-put.ensures ∙ ap (λ w. said c.write.new.self ++ w) c.word-for.ensures))
+    (further x _ _ head word c.in_ok-write.ensures (c.in_ok-put.ensures ∙ ap (λ w. said c.write.new.self ++ w) c.word_for.ensures))
     (whole number word role) c.writeln.ensures

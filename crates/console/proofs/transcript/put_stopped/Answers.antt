@@ -16,6 +16,6 @@ returns c =
     let head = event ++ (codes " STOP " ++ (decimal number ++ codes " ")) in
     let x = said c.args.text.now in
     ends c.writeln.result x _ _ (head ++ word_of_number number) (codes "\n") _
-    (further x _ _ head (word_of_number number) c.in-ok-write.ensures (c.in-ok-put.ensures ∙ ap (λ w. said c.write.new.self ++ w) c.word-for.ensures))
+    (further x _ _ head (word_of_number number) c.in_ok-write.ensures (c.in_ok-put.ensures ∙ ap (λ w. said c.write.new.self ++ w) c.word_for.ensures))
     (whole event (decimal number) (word_of_number number) ∙ ap (λ (k : Stop). line (event ∷ codes " STOP " ∷ decimal k.number ∷ codes " " ∷ word_of_number k.number ∷ [])) c.from-stop.ensures)
     c.writeln.ensures

@@ -11,6 +11,6 @@ returns c =
     let entries = entry_lines 1 c.args.log.now in
     let end = end_line c.args.closing in
     let x = said c.args.text.now in
-    ends c.put-end.result x _ _ (head ++ entries) end _
-    (further x _ _ head entries c.in-ok-put-sheet.ensures c.in-ok-put-entries.ensures)
-    (append_assoc head entries end) c.put-end.ensures
+    ends c.put_end.result x _ _ (head ++ entries) end _
+    (further x _ _ head entries c.in_ok-put_sheet.ensures c.in_ok-put_entries.ensures)
+    (append_assoc head entries end) c.put_end.ensures

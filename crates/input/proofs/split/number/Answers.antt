@@ -7,5 +7,5 @@ pub returns-in-len4-up : goal.returns-in-len4-up
 returns-in-len4-up c =
     let bytes = c.args.bytes.now in
     let enough : 4 ≤ length bytes = omega (arith, ltb-false) in
-    let fits : c.from_be_bytes.result < 2 ^ 32 = omega (arith, c.from_be_bytes.ensures, c.type-inv.bytes 0, c.type-inv.bytes 1, c.type-inv.bytes 2, c.type-inv.bytes 3) in
-    (fits, four_first bytes _ _ enough (λ i. omega (arith, c.type-inv.bytes i)) c.from_be_bytes.ensures (take_rest bytes 4))
+    let fits : c.from_be_bytes.result < 2 ^ 32 = omega (arith, c.from_be_bytes.ensures, c.type_inv.bytes 0, c.type_inv.bytes 1, c.type_inv.bytes 2, c.type_inv.bytes 3) in
+    (fits, four_first bytes _ _ enough (λ i. omega (arith, c.type_inv.bytes i)) c.from_be_bytes.ensures (take_rest bytes 4))

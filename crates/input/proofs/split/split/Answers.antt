@@ -6,20 +6,20 @@ use Rattle.input.proofs.Halves.{sized_same}
 use Rattle.input.proofs.Parts.{split_events, split_whole, split_laid}
 use Rattle.input.proofs.split.split.Goals as goal
 
-pub returns-in-err-book : goal.returns-in-err-book
-returns-in-err-book c =
-    rw c.from-residual-in-err-book.ensures
+pub returns-in_err-book : goal.returns-in_err-book
+returns-in_err-book c =
+    rw c.from-residual-in_err-book.ensures
     (λ s b t es laid.
-    let p = sized_same s (sized b ++ (four t ++ flat_map event_bytes es)) _ _ (laid.bytes_are ∙ sym c.in-ok-sheet.ensures.1) in
-    c.in-err-book.ensures b (four t ++ flat_map event_bytes es) laid.book_fits p.1)
+    let p = sized_same s (sized b ++ (four t ++ flat_map event_bytes es)) _ _ (laid.bytes_are ∙ sym c.in_ok-sheet.ensures.1) in
+    c.in_err-book.ensures b (four t ++ flat_map event_bytes es) laid.book_fits p.1)
 
-pub returns-in-err-tick : goal.returns-in-err-tick
-returns-in-err-tick c =
-    rw c.from-residual-in-err-tick.ensures
+pub returns-in_err-tick : goal.returns-in_err-tick
+returns-in_err-tick c =
+    rw c.from-residual-in_err-tick.ensures
     (λ s b t es laid.
-    let p = sized_same s (sized b ++ (four t ++ flat_map event_bytes es)) _ _ (laid.bytes_are ∙ sym c.in-ok-sheet.ensures.1) in
-    let q = sized_same b (four t ++ flat_map event_bytes es) _ _ (p.1 ∙ sym c.in-ok-book.ensures.1) in
-    omega (arith, ap length q.1, c.in-err-tick.ensures))
+    let p = sized_same s (sized b ++ (four t ++ flat_map event_bytes es)) _ _ (laid.bytes_are ∙ sym c.in_ok-sheet.ensures.1) in
+    let q = sized_same b (four t ++ flat_map event_bytes es) _ _ (p.1 ∙ sym c.in_ok-book.ensures.1) in
+    omega (arith, ap length q.1, c.in_err-tick.ensures))
 
 pub returns-then-events-ne0 : goal.returns-then-events-ne0
 returns-then-events-ne0 c = λ s b t es laid.
@@ -30,10 +30,10 @@ pub returns : goal.returns
 returns c =
     let input = c.args.input.now in
     let ranges : All (λ b. b < 256) input = All-from_get_or (λ b. b < 256) input 0 (λ i _. omega (arith, c.ok.input i)) in
-    let first = c.in-ok-sheet.ensures in
-    let second = c.in-ok-book.ensures in
-    let third = c.in-ok-tick.ensures in
-    let most : length input ≤ 65536 = omega (arith, c.if-input-gt-MOST-INPUT.false) in
+    let first = c.in_ok-sheet.ensures in
+    let second = c.in_ok-book.ensures in
+    let third = c.in_ok-tick.ensures in
+    let most : length input ≤ 65536 = omega (arith, c.if-input-gt-MOST_INPUT.false) in
     record {
       laid = split_laid _ _ _ _ _ _ _ first.1 second.1 third.1 first.0 second.0 third.0 ranges c.if-events-ne0.false most;
       only = split_events _ _ _ _ _ _ _ first.1 second.1 third.1;

@@ -6,21 +6,21 @@ use Rattle.listing.specs.declared.fault.ListFault.TheVariants.{Reading}
 use Rattle.listing.specs.Listed.{input_fault}
 use Rattle.listing.proofs.list.examine.Goals as goal
 
-pub returns-then-input-gt-MOST-INPUT : goal.returns-then-input-gt-MOST-INPUT
+pub returns-then-input-gt-MOST_INPUT : goal.returns-then-input-gt-MOST_INPUT
 unfolding input_fault
-returns-then-input-gt-MOST-INPUT c =
-    let long : ltb 65535 (length c.args.input.now) ≡ true = lt-ltb _ _ c.if-input-gt-MOST-INPUT.true in
+returns-then-input-gt-MOST_INPUT c =
+    let long : ltb 65535 (length c.args.input.now) ≡ true = lt-ltb _ _ c.if-input-gt-MOST_INPUT.true in
     record { judged = sym (cond-true _ _ _ long); value = tt }
 
-pub returns-in-err-read : goal.returns-in-err-read
+pub returns-in_err-read : goal.returns-in_err-read
 unfolding input_fault
-returns-in-err-read c =
-    let fits : ltb 65535 (length c.args.input.now) ≡ false = le-ltb _ _ c.if-input-gt-MOST-INPUT.false in
+returns-in_err-read c =
+    let fits : ltb 65535 (length c.args.input.now) ≡ false = le-ltb _ _ c.if-input-gt-MOST_INPUT.false in
     let p = err_from_is_err_and c.from-residual.result c.from-residual.ensures.1 in
-    rw (p.1, p.2) (record { judged = ap (option_map Reading) c.in-err-read.ensures.judged ∙ sym (cond-false _ _ _ fits); value = tt })
+    rw (p.1, p.2) (record { judged = ap (option_map Reading) c.in_err-read.ensures.judged ∙ sym (cond-false _ _ _ fits); value = tt })
 
 pub returns : goal.returns
 unfolding input_fault
 returns c =
-    let fits : ltb 65535 (length c.args.input.now) ≡ false = le-ltb _ _ c.if-input-gt-MOST-INPUT.false in
-    record { judged = ap (option_map Reading) c.in-ok-read.ensures.judged ∙ sym (cond-false _ _ _ fits); value = c.in-ok-read.ensures.whole.bytes_are }
+    let fits : ltb 65535 (length c.args.input.now) ≡ false = le-ltb _ _ c.if-input-gt-MOST_INPUT.false in
+    record { judged = ap (option_map Reading) c.in_ok-read.ensures.judged ∙ sym (cond-false _ _ _ fits); value = c.in_ok-read.ensures.whole.bytes_are }

@@ -20,24 +20,24 @@ unfolding parted_fault
 once_read input bytes o clean is e =
     ap (option_map Parting) e ∙ ap (λ (b : List ℕ). option_map Parting (part_fault (model b))) is ∙ ap (λ f. parted_by f (model input)) clean
 
-pub returns-in-err-examine : goal.returns-in-err-examine
-returns-in-err-examine c =
+pub returns-in_err-examine : goal.returns-in_err-examine
+returns-in_err-examine c =
     let p = err_from_is_err_and c.from-residual.result c.from-residual.ensures.1 in
-    rw (p.1, p.2) (record { judged = unread c.args.input.now _ c.in-err-examine.ensures.judged; value = tt })
+    rw (p.1, p.2) (record { judged = unread c.args.input.now _ c.in_err-examine.ensures.judged; value = tt })
 
 pub returns-in-Ok : goal.returns-in-Ok
 returns-in-Ok c =
-    let read = c.in-ok-examine.ensures in
+    let read = c.in_ok-examine.ensures in
     let done = c.in-Ok.ensures in
     record {
-      judged = once_read c.args.input.now (bytes_of c.in-ok-examine.field-0) None read.judged read.value done.judged;
+      judged = once_read c.args.input.now (bytes_of c.in_ok-examine.field-0) None read.judged read.value done.judged;
       value = subst (λ (b : List ℕ). PartsOf (model b) c.in-Ok.accepted) read.value done.whole.1;
     }
 
 pub returns-in-Err : goal.returns-in-Err
 returns-in-Err c =
-    let read = c.in-ok-examine.ensures in
+    let read = c.in_ok-examine.ensures in
     record {
-      judged = ap Some c.from.ensures ∙ once_read c.args.input.now (bytes_of c.in-ok-examine.field-0) (Some c.in-Err.refused.0) read.judged read.value c.in-Err.ensures.judged;
+      judged = ap Some c.from.ensures ∙ once_read c.args.input.now (bytes_of c.in_ok-examine.field-0) (Some c.in-Err.refused.0) read.judged read.value c.in-Err.ensures.judged;
       value = tt;
     }

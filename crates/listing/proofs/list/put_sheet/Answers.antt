@@ -9,5 +9,5 @@ use Rattle.listing.proofs.list.put_sheet.Goals as goal
 pub returns : goal.returns
 returns c =
     let sh = sheet_of c.args.sheet.now in
-    ends c.put-parting.result (said c.args.text.now) _ _ (page sh) (parting_text sh c.args.parted) _
-    c.in-ok-put-page.ensures refl c.put-parting.ensures
+    ends c.put_parting.result (said c.args.text.now) _ _ (page sh) (parting_text sh c.args.parted) _
+    c.in_ok-put_page.ensures refl c.put_parting.ensures

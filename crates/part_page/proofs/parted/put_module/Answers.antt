@@ -10,5 +10,5 @@ returns c =
     let name = role_name (sheet_of c.args.sheet.now) c.args.role in
     let x = said c.args.text.now in
     ends c.writeln.result x _ _ (codes "PART " ++ name) (codes "\n") _
-    (further x _ _ (codes "PART ") name c.in-ok-put.ensures (c.in-ok-put-2.ensures ∙ ap (λ w. said c.put.new.self ++ w) c.part.ensures))
+    (further x _ _ (codes "PART ") name c.in_ok-put.ensures (c.in_ok-put-2.ensures ∙ ap (λ w. said c.put.new.self ++ w) c.part.ensures))
     refl c.writeln.ensures

@@ -11,5 +11,5 @@ unfolding part_text
 returns c =
     let sh = sheet_of c.args.sheet.now in
     let module-line = part_line sh c.args.role in
-    ends c.put-sets.result (said c.args.text.now) _ _ module-line (numbered (set_lines sh) 0 c.found.result.now) _
-    c.in-ok-put-module.ensures (ap (λ s. module-line ++ numbered (set_lines sh) 0 s) c.found.ensures) c.put-sets.ensures
+    ends c.put_sets.result (said c.args.text.now) _ _ module-line (numbered (set_lines sh) 0 c.found.result.now) _
+    c.in_ok-put_module.ensures (ap (λ s. module-line ++ numbered (set_lines sh) 0 s) c.found.ensures) c.put_sets.ensures

@@ -10,7 +10,7 @@ use Rattle.part_page.proofs.parted.put_parts.Goals as goal
 pub loop-role-preserved : goal.loop-role-preserved
 loop-role-preserved c =
     numbered_more (part_text (sheet_of c.args.sheet.now)) c.parts-parts.result.now _ _ _ _ c.loop-role.role c.loop-role-test.true
-    c.in-ok-put-part.ensures c.loop-role.invariant
+    c.in_ok-put_part.ensures c.loop-role.invariant
 
 pub returns : goal.returns
 unfolding part_lines

@@ -4,7 +4,7 @@ pub returns-in-Finished : goal.returns-in-Finished
 returns-in-Finished c = rw c.in-Finished.is c.writeln.ensures
 
 pub returns-in-Sending : goal.returns-in-Sending
-returns-in-Sending c = rw c.in-Sending.is c.put-partner.ensures
+returns-in-Sending c = rw c.in-Sending.is c.put_partner.ensures
 
 pub returns-in-Receiving : goal.returns-in-Receiving
-returns-in-Receiving c = rw c.in-Receiving.is c.put-partner-in-Receiving.ensures
+returns-in-Receiving c = rw c.in-Receiving.is c.put_partner-in-Receiving.ensures

@@ -14,7 +14,7 @@ members_all mask w y k h inv =
     sym (append-nil y) ∙ ap (λ n. y ++ states_from mask k n) (sym e) ∙ inv
 
 pub loop-state-preserved : goal.loop-state-preserved
-loop-state-preserved c = members_more c.args.set.now.states _ _ _ c.loop-state.state c.loop-state-test.true c.in-ok-put-member.ensures c.loop-state.invariant
+loop-state-preserved c = members_more c.args.set.now.states _ _ _ c.loop-state.state c.loop-state-test.true c.in_ok-put_member.ensures c.loop-state.invariant
 
 pub returns : goal.returns
 returns c = members_all c.args.set.now.states _ _ c.loop-state.state c.loop-state-test.false c.loop-state.invariant

@@ -11,5 +11,5 @@ returns c =
     let name = role_name (sheet_of c.args.sheet.now) c.args.partner in
     let x = said c.args.text.now in
     ends c.writeln.result x _ _ (way ++ name) (codes "\n") _
-    (further x _ _ way name c.in-ok-write.ensures (c.in-ok-put.ensures ∙ ap (λ w. said c.write.new.self ++ w) c.part.ensures))
+    (further x _ _ way name c.in_ok-write.ensures (c.in_ok-put.ensures ∙ ap (λ w. said c.write.new.self ++ w) c.part.ensures))
     (append_assoc way name (codes "\n")) c.writeln.ensures

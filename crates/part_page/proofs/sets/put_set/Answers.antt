@@ -16,6 +16,6 @@ returns c =
     let states = states_from s.states 0 64 in
     let kind = kind_of sh s.kind in
     let moves = numbered (move_lines sh) 0 s.moves in
-    let members = further x _ _ head states c.in-ok-put-head.ensures c.in-ok-put-members.ensures in
-    let done = further x _ _ (head ++ states) kind members c.in-ok-put-kind.ensures in
-    ends c.put-moves.result x _ _ (head ++ states ++ kind) moves _ done refl c.put-moves.ensures
+    let members = further x _ _ head states c.in_ok-put_head.ensures c.in_ok-put_members.ensures in
+    let done = further x _ _ (head ++ states) kind members c.in_ok-put_kind.ensures in
+    ends c.put_moves.result x _ _ (head ++ states ++ kind) moves _ done refl c.put_moves.ensures

@@ -40,7 +40,7 @@ returns c =
     let p = pushed c.push.result q after mask (omega (arith, held_count q, c.requires.slots, c.requires.room)) c.push.ensures.held in
     let more : take (s.count + 1) (set s.masks s.count mask) ≡ found_in s ++ mask ∷ [] = take_more_set s.masks s.count mask (omega arith) in
     record {
-      value = ap (λ b. outcome b (take (s.count + 1) (set s.masks s.count mask))) (c.is-ok.ensures.value ∙ p.0)
+      value = ap (λ b. outcome b (take (s.count + 1) (set s.masks s.count mask))) (c.is_ok.ensures.value ∙ p.0)
           ∙ ap (λ xs. outcome true xs) more
           ∙ sym (entered_new (found_in s) mask (omega (arith, c.position.ensures)) (omega arith));
       ready = record {

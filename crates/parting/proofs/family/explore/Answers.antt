@@ -8,7 +8,7 @@ use Rattle.parting.proofs.family.explore.Goals as goal
 
 pub enter-requires : goal.enter-requires
 enter-requires c =
-    let s = c.start-sets-sets.ensures in
+    let s = c.start_sets-sets.ensures in
     record {
       full = s.1;
       few = omega (arith, s.0);
@@ -19,8 +19,8 @@ enter-requires c =
 pub loop-mask-init : goal.loop-mask-init
 loop-mask-init c =
     let v = seen c.args.view in
-    started c.args.role v c.args.labels c.enter.result c.start-sets-sets.result c.enter.new.sets c.new-queue.result c.enter.new.queue c.closure.result
-    c.start-sets-sets.ensures.0 c.new-queue.ensures.held (c.closure.ensures.value ∙ start_is v) c.enter.ensures.value c.enter.ensures.ready c.enter.ensures.queued
+    started c.args.role v c.args.labels c.enter.result c.start_sets-sets.result c.enter.new.sets c.new-queue.result c.enter.new.queue c.closure.result
+    c.start_sets-sets.ensures.0 c.new-queue.ensures.held (c.closure.ensures.value ∙ start_is v) c.enter.ensures.value c.enter.ensures.ready c.enter.ensures.queued
 
 pub visit-requires : goal.visit-requires
 visit-requires c =
@@ -29,24 +29,24 @@ visit-requires c =
     let t = taken l.sets l.set c.in-Some.mask l.queue c.pop.new.self l.invariant.ready l.invariant.waiting e.held e.slots in
     (c.requires.0, c.requires.1, omega (arith, l.auto.slots, c.requires.2), t.ready)
 
-pub returns-in-err-visit : goal.returns-in-err-visit
-returns-in-err-visit c =
+pub returns-in_err-visit : goal.returns-in_err-visit
+returns-in_err-visit c =
     let l = c.loop-mask in
     let e = c.in-Some.ensures in
     let mask = c.in-Some.mask in
     let v = seen c.args.view in
     let found = found_in l.sets in
     let t = taken l.sets l.set mask l.queue c.pop.new.self l.invariant.ready l.invariant.waiting e.held e.slots in
-    let f = c.in-err-visit.field-0.0 in
+    let f = c.in_err-visit.field-0.0 in
     let stops : visited c.args.role v c.args.labels l.set (get_or found l.set 0) found ≡ stopped f =
-    ap (λ m. visited c.args.role v c.args.labels l.set m found) t.is ∙ sym c.in-err-visit.ensures.value in
+    ap (λ m. visited c.args.role v c.args.labels l.set m found) t.is ∙ sym c.in_err-visit.ensures.value in
     let all : stopped f ≡ family_of c.args.role v c.args.labels =
     sym (explored_stop c.args.role v c.args.labels l.set found f (omega (arith, t.number, l.invariant.ready.few)) t.under stops) ∙ l.invariant.same in
     let p = err_from_is_err_and c.from-residual.result c.from-residual.ensures.1 in
     rw (p.1, p.2) (record { value = all; few = tt })
 
-pub overflow-add-set : goal.overflow-add-set
-overflow-add-set c =
+pub overflow_add-set : goal.overflow_add-set
+overflow_add-set c =
     let l = c.loop-mask in
     let e = c.in-Some.ensures in
     let t = taken l.sets l.set c.in-Some.mask l.queue c.pop.new.self l.invariant.ready l.invariant.waiting e.held e.slots in
@@ -69,7 +69,7 @@ loop-mask-preserved c =
     let found = found_in l.sets in
     let more = found_in c.visit.new.sets in
     let t = taken l.sets l.set mask l.queue c.pop.new.self l.invariant.ready l.invariant.waiting e.held e.slots in
-    let w = c.in-ok-visit.ensures in
+    let w = c.in_ok-visit.ensures in
     let goes : visited c.args.role v c.args.labels l.set (get_or found l.set 0) found ≡ sets more =
     ap (λ m. visited c.args.role v c.args.labels l.set m found) t.is ∙ sym w.value in
     record {
@@ -82,6 +82,6 @@ pub returns : goal.returns
 returns c =
     let l = c.loop-mask in
     record {
-      value = explored_all l.sets c.args.role (seen c.args.view) c.args.labels l.set l.queue l.invariant c.in-default.ensures.held.0;
+      value = explored_all l.sets c.args.role (seen c.args.view) c.args.labels l.set l.queue l.invariant c.in_default.ensures.held.0;
       few = (l.invariant.ready.few, l.invariant.ready.full);
     }

@@ -7,10 +7,10 @@ use Rattle.parting.proofs.family.follow.Goals as goal
 pub loop-label-init : goal.loop-label-init
 loop-label-init c = (ap (λ n. followed c.args.silent.now c.args.acts.now 0 n (found_in c.args.sets.now)) (omega arith), c.requires.2, λ k w. w)
 
-pub returns-then-not-enter-successor : goal.returns-then-not-enter-successor
-returns-then-not-enter-successor c =
+pub returns-then-not-enter_successor : goal.returns-then-not-enter_successor
+returns-then-not-enter_successor c =
     let l = c.loop-label in
-    let e = c.if-not-enter-successor.ensures in
+    let e = c.if-not-enter_successor.ensures in
     record {
       value = sym (follows_none c.args.silent.now c.args.acts.now l.label c.args.labels (found_in l.sets) (omega arith) (sym e.value)) ∙ l.invariant.0;
       ready = e.ready;
@@ -20,7 +20,7 @@ returns-then-not-enter-successor c =
 pub loop-label-preserved : goal.loop-label-preserved
 loop-label-preserved c =
     let l = c.loop-label in
-    let e = c.if-not-enter-successor.ensures in (
+    let e = c.if-not-enter_successor.ensures in (
       sym (follows_some c.args.silent.now c.args.acts.now l.label c.args.labels (found_in l.sets) _ (omega arith) (sym e.value)) ∙ l.invariant.0,
       e.ready,
       λ k w. e.queued k (l.invariant.2 k w),

@@ -8,13 +8,13 @@ use Rattle.parting.specs.Sets.{found_in}
 use Rattle.parting.proofs.Following.{visited_point, visited_full, visited_all, all_kept}
 use Rattle.parting.proofs.family.visit.Goals as goal
 
-pub first-failing-requires : goal.first-failing-requires
-first-failing-requires c =
-    subst SmallActs (sym c.acts-in-count.ensures.value) (all_kept (λ (a : Act). (a.state < 64) × (a.next < 64) × (a.label < 32)) (λ a. has c.args.mask a.state) c.args.view.acts.now c.requires.0)
+pub first_failing-requires : goal.first_failing-requires
+first_failing-requires c =
+    subst SmallActs (sym c.acts_in-count.ensures.value) (all_kept (λ (a : Act). (a.state < 64) × (a.next < 64) × (a.label < 32)) (λ a. has c.args.mask a.state) c.args.view.acts.now c.requires.0)
 
 pub follow-requires : goal.follow-requires
 follow-requires c = (
-  subst SmallActs (sym c.acts-in-count.ensures.value) (all_kept (λ (a : Act). (a.state < 64) × (a.next < 64) × (a.label < 32)) (λ a. has c.args.mask a.state) c.args.view.acts.now c.requires.0),
+  subst SmallActs (sym c.acts_in-count.ensures.value) (all_kept (λ (a : Act). (a.state < 64) × (a.next < 64) × (a.label < 32)) (λ a. has c.args.mask a.state) c.args.view.acts.now c.requires.0),
   c.requires.1,
   c.requires.3,
 )
@@ -23,8 +23,8 @@ pub returns-in-Some : goal.returns-in-Some
 returns-in-Some c =
     let a = c.args in
     record {
-      value = ap stopped c.fault-at.ensures
-          ∙ sym (visited_point a.role (seen a.view) a.labels a.set a.mask (found_in a.sets.now) _ c.acts-in-count.ensures.value c.in-Some.point (sym c.first-failing.ensures ∙ c.in-Some.is));
+      value = ap stopped c.fault_at.ensures
+          ∙ sym (visited_point a.role (seen a.view) a.labels a.set a.mask (found_in a.sets.now) _ c.acts_in-count.ensures.value c.in-Some.point (sym c.first_failing.ensures ∙ c.in-Some.is));
       ready = c.requires.3;
       queued = λ k w. w;
     }
@@ -34,7 +34,7 @@ returns-then-not-follow c =
     let a = c.args in
     let e = c.if-not-follow.ensures in
     record {
-      value = sym (visited_full a.role (seen a.view) a.labels a.set a.mask (found_in a.sets.now) _ c.acts-in-count.ensures.value (sym c.first-failing.ensures ∙ c.in-default.is) (sym e.value));
+      value = sym (visited_full a.role (seen a.view) a.labels a.set a.mask (found_in a.sets.now) _ c.acts_in-count.ensures.value (sym c.first_failing.ensures ∙ c.in_default.is) (sym e.value));
       ready = e.ready;
       queued = e.queued;
     }
@@ -44,7 +44,7 @@ returns c =
     let a = c.args in
     let e = c.if-not-follow.ensures in
     record {
-      value = sym (visited_all a.role (seen a.view) a.labels a.set a.mask (found_in a.sets.now) _ c.acts-in-count.ensures.value _ (sym c.first-failing.ensures ∙ c.in-default.is) (sym e.value));
+      value = sym (visited_all a.role (seen a.view) a.labels a.set a.mask (found_in a.sets.now) _ c.acts_in-count.ensures.value _ (sym c.first_failing.ensures ∙ c.in_default.is) (sym e.value));
       ready = e.ready;
       queued = e.queued;
     }

@@ -7,13 +7,13 @@ use Rattle.parting.specs.View.{place_of, places_of}
 use Rattle.parting.proofs.Decoding.{Decoded, decoded_more, decoded_all, few_places, sheet_valid}
 use Rattle.parting.proofs.graph.decode.Goals as goal
 
-pub decode-state-count-requires : goal.decode-state-count-requires
-decode-state-count-requires c =
+pub decode_state-count-requires : goal.decode_state-count-requires
+decode_state-count-requires c =
     let sh = sheet_of c.args.sheet.now in
     let s = c.loop-state.state in
     let n = ap (λ k. k.states) c.counts-state-end.ensures.value in
     let under : s < length sh.states = omega (arith, n) in
-    let is : state_of c.state-body.result.now ≡ get_or sh.states s ended = ap state_of c.state-body.ensures ∙ state_of_body (get_or sh.states s ended) in
+    let is : state_of c.state_body.result.now ≡ get_or sh.states s ended = ap state_of c.state_body.ensures ∙ state_of_body (get_or sh.states s ended) in
     let few = few_places sh (sheet_valid c.args.sheet.now) s s under in
     let e = ap (λ x. length (places_of s x)) is in
     omega (arith, few, e, c.loop-state.invariant.bound, c.loop-state.auto.slots, c.requires, (sheet_valid c.args.sheet.now).state_count.1)
@@ -25,10 +25,10 @@ pub loop-state-preserved : goal.loop-state-preserved
 loop-state-preserved c =
     let sh = sheet_of c.args.sheet.now in
     let s = c.loop-state.state in
-    let d = c.decode-state-count in
+    let d = c.decode_state-count in
     let n = ap (λ k. k.states) c.counts-state-end.ensures.value in
     let under : s < length sh.states = omega (arith, n) in
-    let is : state_of c.state-body.result.now ≡ get_or sh.states s ended = ap state_of c.state-body.ensures ∙ state_of_body (get_or sh.states s ended) in
+    let is : state_of c.state_body.result.now ≡ get_or sh.states s ended = ap state_of c.state_body.ensures ∙ state_of_body (get_or sh.states s ended) in
     let few = few_places sh (sheet_valid c.args.sheet.now) s s under in
     decoded_more sh.states c.loop-state.slots d.new.slots c.loop-state.count d.result s under few
     (d.ensures.value ∙ ap (λ x. map place_of (take c.loop-state.count c.loop-state.slots) ++ places_of s x) is)

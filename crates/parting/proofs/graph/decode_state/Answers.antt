@@ -6,10 +6,10 @@ use Rattle.parting.specs.View.{make_place, place_of, places_of}
 use Rattle.parting.proofs.Decoding.{Decoding, decoding_more, decoding_all}
 use Rattle.parting.proofs.graph.decode_state.Goals as goal
 
-pub returns-in-default : goal.returns-in-default
-returns-in-default c =
+pub returns-in_default : goal.returns-in_default
+returns-in_default c =
     let s = c.args.state in
-    let e = ap (places_of s) c.in-default.ensures in
+    let e = ap (places_of s) c.in_default.ensures in
     let ps = map place_of (take c.args.count c.args.slots.now) in
     record {
       value = sym (ap (λ l. ps ++ l) e ∙ append-nil ps);
@@ -29,26 +29,26 @@ bounds-slots-at c =
     let l = c.loop-branch in
     let x = c.in-Some.exchange in
     let e = ap (λ y. length (places_of c.args.state y)) c.in-Some.ensures.0 in
-    room l.at c.args.count (length l.slots) c.args.state x.sender x.receiver (branches x.branches.now) (branches l.left.now) _ _ l.invariant.counted c.in-Some-split-branch.ensures.0
+    room l.at c.args.count (length l.slots) c.args.state x.sender x.receiver (branches x.branches.now) (branches l.left.now) _ _ l.invariant.counted c.in-Some-split_branch.ensures.0
     (omega (arith, e, c.requires, l.auto.slots))
 
-pub offset-bounds-slots-at : goal.offset-bounds-slots-at
-offset-bounds-slots-at c =
+pub offset_bounds-slots-at : goal.offset_bounds-slots-at
+offset_bounds-slots-at c =
     let l = c.loop-branch in
     let x = c.in-Some.exchange in
     let e = ap (λ y. length (places_of c.args.state y)) c.in-Some.ensures.0 in
     let within : l.at < length l.slots =
-    room l.at c.args.count (length l.slots) c.args.state x.sender x.receiver (branches x.branches.now) (branches l.left.now) _ _ l.invariant.counted c.in-Some-split-branch.ensures.0
+    room l.at c.args.count (length l.slots) c.args.state x.sender x.receiver (branches x.branches.now) (branches l.left.now) _ _ l.invariant.counted c.in-Some-split_branch.ensures.0
     (omega (arith, e, c.requires, l.auto.slots)) in
     search rules
 
-pub overflow-add-at : goal.overflow-add-at
-overflow-add-at c =
+pub overflow_add-at : goal.overflow_add-at
+overflow_add-at c =
     let l = c.loop-branch in
     let x = c.in-Some.exchange in
     let e = ap (λ y. length (places_of c.args.state y)) c.in-Some.ensures.0 in
     let within : l.at < length l.slots =
-    room l.at c.args.count (length l.slots) c.args.state x.sender x.receiver (branches x.branches.now) (branches l.left.now) _ _ l.invariant.counted c.in-Some-split-branch.ensures.0
+    room l.at c.args.count (length l.slots) c.args.state x.sender x.receiver (branches x.branches.now) (branches l.left.now) _ _ l.invariant.counted c.in-Some-split_branch.ensures.0
     (omega (arith, e, c.requires, l.auto.slots)) in
     search rules
 
@@ -58,10 +58,10 @@ loop-branch-preserved c =
     let x = c.in-Some.exchange in
     let e = ap (λ y. length (places_of c.args.state y)) c.in-Some.ensures.0 in
     let within : l.at < length l.slots =
-    room l.at c.args.count (length l.slots) c.args.state x.sender x.receiver (branches x.branches.now) (branches l.left.now) _ _ l.invariant.counted c.in-Some-split-branch.ensures.0
+    room l.at c.args.count (length l.slots) c.args.state x.sender x.receiver (branches x.branches.now) (branches l.left.now) _ _ l.invariant.counted c.in-Some-split_branch.ensures.0
     (omega (arith, e, c.requires, l.auto.slots)) in
-    decoding_more c.args.state x.sender x.receiver (map place_of (take c.args.count c.args.slots.now)) (branches x.branches.now) (branches l.left.now) (branches c.in-Some-split-branch.rest.now) c.in-Some-split-branch.branch
-    l.slots l.at c.args.count within c.in-Some-split-branch.ensures.0 l.invariant
+    decoding_more c.args.state x.sender x.receiver (map place_of (take c.args.count c.args.slots.now)) (branches x.branches.now) (branches l.left.now) (branches c.in-Some-split_branch.rest.now) c.in-Some-split_branch.branch
+    l.slots l.at c.args.count within c.in-Some-split_branch.ensures.0 l.invariant
 
 pub returns : goal.returns
 returns c =
@@ -70,5 +70,5 @@ returns c =
     let s = c.args.state in
     let e = ap (places_of s) c.in-Some.ensures.0 in
     let before = map place_of (take c.args.count c.args.slots.now) in
-    let d = decoding_all (make_place s x.sender x.receiver) before (branches x.branches.now) (branches l.left.now) l.slots l.at c.args.count c.in-default-split-branch.ensures l.invariant in
+    let d = decoding_all (make_place s x.sender x.receiver) before (branches x.branches.now) (branches l.left.now) l.slots l.at c.args.count c.in_default-split_branch.ensures l.invariant in
     record { value = d.0 ∙ sym (ap (λ ps. before ++ ps) e); count = d.1 ∙ sym (ap (λ ps. c.args.count + length ps) e) }

@@ -14,8 +14,8 @@ has-requires c = (All-get_or (λ (a : Act). (a.state < 64) × (a.next < 64) × (
 pub loop-i-init : goal.loop-i-init
 loop-i-init c = record { found = refl; behind = omega arith }
 
-pub offset-bounds-slots-count : goal.offset-bounds-slots-count
-offset-bounds-slots-count c =
+pub offset_bounds-slots-count : goal.offset_bounds-slots-count
+offset_bounds-slots-count c =
     let within : c.loop-i.count < length c.loop-i.slots = omega (arith, c.loop-i.invariant.behind, c.loop-i.auto.slots, c.requires.0) in
     search rules
 

@@ -5,15 +5,15 @@ use Rattle.parting.proofs.Blanks.{no_act}
 use Rattle.parting.proofs.Tallying.{every_here, every_more}
 use Rattle.parting.proofs.judging.one_side.Goals as goal
 
-pub returns-then-not-same-side : goal.returns-then-not-same-side
-returns-then-not-same-side c =
+pub returns-then-not-same_side : goal.returns-then-not-same_side
+returns-then-not-same_side c =
     let acts = c.args.acts.now in
-    sym (every_here (is_same_side (get_or acts 0 no_act)) acts c.loop-i.i no_act (omega arith) (sym c.if-not-same-side.ensures)) ∙ c.loop-i.invariant
+    sym (every_here (is_same_side (get_or acts 0 no_act)) acts c.loop-i.i no_act (omega arith) (sym c.if-not-same_side.ensures)) ∙ c.loop-i.invariant
 
 pub loop-i-preserved : goal.loop-i-preserved
 loop-i-preserved c =
     let acts = c.args.acts.now in
-    sym (every_more (is_same_side (get_or acts 0 no_act)) acts c.loop-i.i no_act (omega arith) (sym c.if-not-same-side.ensures)) ∙ c.loop-i.invariant
+    sym (every_more (is_same_side (get_or acts 0 no_act)) acts c.loop-i.i no_act (omega arith) (sym c.if-not-same_side.ensures)) ∙ c.loop-i.invariant
 
 pub returns : goal.returns
 returns c =

@@ -10,13 +10,13 @@ pub returns-then-not-agrees : goal.returns-then-not-agrees
 returns-then-not-agrees c =
     let acts = c.args.acts.now in
     let act = get_or acts c.loop-i.i no_act in
-    sym (every_here (λ (a : Act). agrees (first_with a.label acts) a) acts c.loop-i.i no_act (omega arith) (ap (λ o. agrees o act) (sym c.first-of.ensures) ∙ sym c.if-not-agrees.ensures)) ∙ c.loop-i.invariant
+    sym (every_here (λ (a : Act). agrees (first_with a.label acts) a) acts c.loop-i.i no_act (omega arith) (ap (λ o. agrees o act) (sym c.first_of.ensures) ∙ sym c.if-not-agrees.ensures)) ∙ c.loop-i.invariant
 
 pub loop-i-preserved : goal.loop-i-preserved
 loop-i-preserved c =
     let acts = c.args.acts.now in
     let act = get_or acts c.loop-i.i no_act in
-    sym (every_more (λ (a : Act). agrees (first_with a.label acts) a) acts c.loop-i.i no_act (omega arith) (ap (λ o. agrees o act) (sym c.first-of.ensures) ∙ sym c.if-not-agrees.ensures)) ∙ c.loop-i.invariant
+    sym (every_more (λ (a : Act). agrees (first_with a.label acts) a) acts c.loop-i.i no_act (omega arith) (ap (λ o. agrees o act) (sym c.first_of.ensures) ∙ sym c.if-not-agrees.ensures)) ∙ c.loop-i.invariant
 
 pub returns : goal.returns
 returns c =

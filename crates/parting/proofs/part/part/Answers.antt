@@ -12,10 +12,10 @@ use Rattle.parting.proofs.Roles.{faults_more, faults_stop, faults_all, faults_st
 use Rattle.parting.proofs.part.part.Goals as goal
 
 pub loop-role-init : goal.loop-role-init
-loop-role-init c = (c.no-parts-parts.ensures, faults_start (sheet_of c.args.sheet), λ m h. absurd (omega arith))
+loop-role-init c = (c.no_parts-parts.ensures, faults_start (sheet_of c.args.sheet), λ m h. absurd (omega arith))
 
-pub role-part-requires : goal.role-part-requires
-role-part-requires c = (
+pub role_part-requires : goal.role_part-requires
+role_part-requires c = (
   simp length-take (omega (arith, c.decode-count.ensures.bound)),
   subst SmallPlaces (sym c.decode-count.ensures.value) (small_places_lem (sheet_of c.args.sheet) (sheet_valid c.args.sheet)),
 )
@@ -76,6 +76,6 @@ returns c =
       );
     }
 
-pub invariant-of-result : goal.invariant-of-result
-invariant-of-result c =
+pub invariant_of-result : goal.invariant_of-result
+invariant_of-result c =
     omega (arith, ap (λ k. k.roles) c.counts-counts.ensures.value, (sheet_valid c.args.sheet).role_count.1)

@@ -6,12 +6,12 @@ use Rattle.parting.proofs.role.part_in.Goals as goal
 pub table-requires : goal.table-requires
 table-requires c =
     let long : length c.args.view.acts.now ≤ length c.explore.new.slots = search rules in
-    (c.requires.0, c.requires.1, long, c.in-ok-sets.ensures.few)
+    (c.requires.0, c.requires.1, long, c.in_ok-sets.ensures.few)
 
-pub returns-in-err-sets : goal.returns-in-err-sets
-returns-in-err-sets c =
+pub returns-in_err-sets : goal.returns-in_err-sets
+returns-in_err-sets c =
     let p = err_from_is_err_and c.from-residual.result c.from-residual.ensures.1 in
-    rw (p.1, p.2) (sym c.in-err-sets.ensures.value)
+    rw (p.1, p.2) (sym c.in_err-sets.ensures.value)
 
 pub returns : goal.returns
-returns c = record { found = found_in c.in-ok-sets.sets; are = sym c.in-ok-sets.ensures.value; table = c.table.ensures }
+returns c = record { found = found_in c.in_ok-sets.sets; are = sym c.in_ok-sets.ensures.value; table = c.table.ensures }

@@ -5,21 +5,21 @@ use Rattle.parting.specs.View.{place_of}
 use Rattle.parting.proofs.Bounding.{small_acts_lem, small_silent, small_back, view_is}
 use Rattle.parting.proofs.role.role_part.Goals as goal
 
-pub acting-states-requires : goal.acting-states-requires
-acting-states-requires c =
-    subst SmallActs (sym c.collect-acts-act-count.ensures.value) (small_acts_lem c.args.role (map place_of c.args.transitions.now) c.requires.1)
+pub acting_states-requires : goal.acting_states-requires
+acting_states-requires c =
+    subst SmallActs (sym c.collect_acts-act_count.ensures.value) (small_acts_lem c.args.role (map place_of c.args.transitions.now) c.requires.1)
 
 pub closure-requires : goal.closure-requires
-closure-requires c = subst SmallEdges (sym c.collect-back.ensures) (small_back (map place_of c.args.transitions.now) c.requires.1)
+closure-requires c = subst SmallEdges (sym c.collect_back.ensures) (small_back (map place_of c.args.transitions.now) c.requires.1)
 
-pub part-in-requires : goal.part-in-requires
-part-in-requires c = (
-  subst SmallActs (sym c.collect-acts-act-count.ensures.value) (small_acts_lem c.args.role (map place_of c.args.transitions.now) c.requires.1),
-  subst SmallEdges (sym c.collect-silent-silent-count.ensures.value) (small_silent c.args.role (map place_of c.args.transitions.now) c.requires.1),
-  simp length-take (omega (arith, c.collect-acts-act-count.ensures.bound, c.requires.0)),
+pub part_in-requires : goal.part_in-requires
+part_in-requires c = (
+  subst SmallActs (sym c.collect_acts-act_count.ensures.value) (small_acts_lem c.args.role (map place_of c.args.transitions.now) c.requires.1),
+  subst SmallEdges (sym c.collect_silent-silent_count.ensures.value) (small_silent c.args.role (map place_of c.args.transitions.now) c.requires.1),
+  simp length-take (omega (arith, c.collect_acts-act_count.ensures.bound, c.requires.0)),
 )
 
 pub returns : goal.returns
 returns c =
-    let same = view_is c.args.role (map place_of c.args.transitions.now) _ _ _ c.acting-states.result c.closure.result c.collect-acts-act-count.ensures.value c.collect-silent-silent-count.ensures.value c.collect-back.ensures c.acting-states.ensures c.closure.ensures.value in
-    subst (λ v. PartIn v c.args.role c.args.labels c.part-in.result) same c.part-in.ensures
+    let same = view_is c.args.role (map place_of c.args.transitions.now) _ _ _ c.acting_states.result c.closure.result c.collect_acts-act_count.ensures.value c.collect_silent-silent_count.ensures.value c.collect_back.ensures c.acting_states.ensures c.closure.ensures.value in
+    subst (λ v. PartIn v c.args.role c.args.labels c.part_in.result) same c.part_in.ensures

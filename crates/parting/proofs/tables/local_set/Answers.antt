@@ -6,18 +6,18 @@ use Rattle.parting.specs.Tables.{local_kind, move_under}
 use Rattle.parting.proofs.Following.{all_kept}
 use Rattle.parting.proofs.tables.local_set.Goals as goal
 
-pub moves-of-requires : goal.moves-of-requires
-moves-of-requires c = (
-  subst SmallActs (sym c.acts-in-count.ensures.value) (all_kept (λ (a : Act). (a.state < 64) × (a.next < 64) × (a.label < 32)) (λ a. has c.args.mask a.state) c.args.view.acts.now c.requires.0),
+pub moves_of-requires : goal.moves_of-requires
+moves_of-requires c = (
+  subst SmallActs (sym c.acts_in-count.ensures.value) (all_kept (λ (a : Act). (a.state < 64) × (a.next < 64) × (a.label < 32)) (λ a. has c.args.mask a.state) c.args.view.acts.now c.requires.0),
   c.requires.1,
   c.requires.3,
 )
 
 pub returns : goal.returns
 returns c =
-    let are = c.acts-in-count.ensures.value in
+    let are = c.acts_in-count.ensures.value in
     record {
       states = refl;
-      kind = c.kind-of.ensures ∙ ap local_kind are;
-      moves = λ label h. c.moves-of.ensures label h ∙ ap (λ as'. move_under c.args.view.silent.now c.args.found.now as' label) are;
+      kind = c.kind_of.ensures ∙ ap local_kind are;
+      moves = λ label h. c.moves_of.ensures label h ∙ ap (λ as'. move_under c.args.view.silent.now c.args.found.now as' label) are;
     }

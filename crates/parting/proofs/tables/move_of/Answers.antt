@@ -21,14 +21,14 @@ with_act o a n k e q = rw (e, q)
 without : (o : Option Act) (k : ℕ) → o ≡ None → ◌≡◌ {A = Option Move} None (moved o k)
 without o k e = rw e
 
-pub overflow-cast-next : goal.overflow-cast-next
-overflow-cast-next c = omega (arith, c.position-next.ensures, position_few c.successor.result c.args.found.now, c.requires.2)
+pub overflow_cast-next : goal.overflow_cast-next
+overflow_cast-next c = omega (arith, c.position-next.ensures, position_few c.successor.result c.args.found.now, c.requires.2)
 
 pub returns-in-Some : goal.returns-in-Some
 unfolding move_under
 returns-in-Some c =
-    with_act _ c.in-Some.act _ _ (sym c.first-of.ensures ∙ c.in-Some.is) (c.position-next.ensures ∙ ap (λ m. position m c.args.found.now) c.successor.ensures)
+    with_act _ c.in-Some.act _ _ (sym c.first_of.ensures ∙ c.in-Some.is) (c.position-next.ensures ∙ ap (λ m. position m c.args.found.now) c.successor.ensures)
 
 pub returns-in-None : goal.returns-in-None
 unfolding move_under
-returns-in-None c = without _ _ (sym c.first-of.ensures ∙ c.in-None.is)
+returns-in-None c = without _ _ (sym c.first_of.ensures ∙ c.in-None.is)

@@ -17,7 +17,7 @@ loop-label-init c = (refl, λ k h. absurd (omega arith))
 pub loop-label-preserved : goal.loop-label-preserved
 loop-label-preserved c =
     let l = c.loop-label in
-    (length-set l.moves l.label _ ∙ l.invariant.0, one_more l.moves l.label _ None _ (omega (arith, l.invariant.0)) c.move-of.ensures l.invariant.1)
+    (length-set l.moves l.label _ ∙ l.invariant.0, one_more l.moves l.label _ None _ (omega (arith, l.invariant.0)) c.move_of.ensures l.invariant.1)
 
 pub returns : goal.returns
 returns c = λ label h. c.loop-label.invariant.1 label (omega arith)

@@ -19,10 +19,10 @@ one_more v found table i s h e below k l d = go (cases_eq k i)
     go (inr n) = subst (Entry v found (get_or found k 0)) (sym (get_or-set_other table i k s d n)) (below k (omega arith) d)
 
 pub loop-i-init : goal.loop-i-init
-loop-i-init c = (c.no-part-part.ensures, refl, λ k h. absurd (omega arith))
+loop-i-init c = (c.no_part-part.ensures, refl, λ k h. absurd (omega arith))
 
-pub local-set-requires : goal.local-set-requires
-local-set-requires c =
+pub local_set-requires : goal.local_set-requires
+local_set-requires c =
     let s = c.args.sets in
     let n : length (found_in s) ≡ s.count = length-take-le s.count s.masks (omega (arith, c.requires.3)) in
     (c.requires.0, c.requires.1, omega (arith, c.loop-i.auto.slots, c.requires.2), omega (arith, n, c.requires.3.0))
@@ -33,9 +33,9 @@ loop-i-preserved c =
     let s = c.args.sets in
     let i = l.i in
     let is : get_or s.masks i 0 ≡ get_or (found_in s) i 0 = sym (get_or-take s.count s.masks i 0 (omega arith)) in (
-      length-set l.part.sets i c.local-set.result ∙ l.invariant.0,
+      length-set l.part.sets i c.local_set.result ∙ l.invariant.0,
       l.invariant.1,
-      one_more (seen c.args.view) (found_in s) l.part.sets i c.local-set.result (omega (arith, l.invariant.0, c.requires.3.0)) (subst (λ m. Entry (seen c.args.view) (found_in s) m c.local-set.result) is c.local-set.ensures) l.invariant.2,
+      one_more (seen c.args.view) (found_in s) l.part.sets i c.local_set.result (omega (arith, l.invariant.0, c.requires.3.0)) (subst (λ m. Entry (seen c.args.view) (found_in s) m c.local_set.result) is c.local_set.ensures) l.invariant.2,
     )
 
 pub returns : goal.returns

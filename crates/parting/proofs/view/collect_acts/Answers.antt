@@ -5,13 +5,13 @@ use Rattle.parting.specs.View.{place_of, acts_at}
 use Rattle.parting.proofs.Blanks.{no_transition}
 use Rattle.parting.proofs.Collecting.{Collecting, collecting_none, collecting_some, collecting_all, collecting_at, joined_map}
 use Rattle.parting.proofs.view.collect_acts.Goals as goal
-use Rattle.parting.proofs.view.collect_acts.Goals.{in-Some, in-default}
+use Rattle.parting.proofs.view.collect_acts.Goals.{in-Some, in_default}
 
 pub loop-i-init : goal.loop-i-init
 loop-i-init c = record { found = refl; behind = omega arith }
 
-pub offset-bounds-slots-count : goal.offset-bounds-slots-count
-offset-bounds-slots-count c =
+pub offset_bounds-slots-count : goal.offset_bounds-slots-count
+offset_bounds-slots-count c =
     let within : c.loop-i.count < length c.loop-i.slots = omega (arith, c.loop-i.invariant.behind, c.loop-i.auto.slots, c.requires) in
     search rules
 
@@ -22,11 +22,11 @@ loop-i-preserved c =
     let slots = c.loop-i.slots in
     let f = λ (t : Transition). acts_at c.args.role (place_of t) in
     let within : c.loop-i.count < length slots = omega (arith, c.loop-i.invariant.behind, c.loop-i.auto.slots, c.requires) in
-    elim c.match-act-of.branch [
+    elim c.match-act_of.branch [
       | in-Some w ↦ collecting_at f ts _ _ (i + 1) _ _ w.slots-is w.count-is
-          (collecting_some f ts slots c.loop-i.count i no_transition w.in-Some.act (omega arith) within (sym c.act-of.ensures ∙ ap listed w.in-Some.is) c.loop-i.invariant)
-      | in-default w ↦ collecting_at f ts _ _ (i + 1) _ _ w.slots-is w.count-is
-          (collecting_none f ts slots c.loop-i.count i no_transition (omega arith) (sym c.act-of.ensures ∙ ap listed w.in-default.is) c.loop-i.invariant)
+          (collecting_some f ts slots c.loop-i.count i no_transition w.in-Some.act (omega arith) within (sym c.act_of.ensures ∙ ap listed w.in-Some.is) c.loop-i.invariant)
+      | in_default w ↦ collecting_at f ts _ _ (i + 1) _ _ w.slots-is w.count-is
+          (collecting_none f ts slots c.loop-i.count i no_transition (omega arith) (sym c.act_of.ensures ∙ ap listed w.in_default.is) c.loop-i.invariant)
     ]
 
 pub returns : goal.returns

@@ -14,18 +14,18 @@ pub returns-then-bytes-ne1 : goal.returns-then-bytes-ne1
 unfolding header_fault
 returns-then-bytes-ne1 c = record { judged = simp first_unless (grind (arith, nat_tests)); value = tt }
 
-pub returns-in-err-check-counts : goal.returns-in-err-check-counts
+pub returns-in_err-check_counts : goal.returns-in_err-check_counts
 unfolding header_fault
-returns-in-err-check-counts c =
+returns-in_err-check_counts c =
     let p = err_from_is_err_and c.from-residual.result c.from-residual.ensures.1 in
-    let e : count_fault (counts c.args.bytes.now) ≡ Some c.in-err-check-counts.field-0.0 = sym (ap count_fault c.counts-in-counts.ensures) ∙ sym c.in-err-check-counts.ensures in
+    let e : count_fault (counts c.args.bytes.now) ≡ Some c.in_err-check_counts.field-0.0 = sym (ap count_fault c.counts_in-counts.ensures) ∙ sym c.in_err-check_counts.ensures in
     rw (p.1, p.2) (record { judged = simp first_unless (rw e (grind (arith, nat_tests))); value = tt })
 
-pub returns-then-bytes-first-offset : goal.returns-then-bytes-first-offset
+pub returns-then-bytes-first_offset : goal.returns-then-bytes-first_offset
 unfolding header_fault
-returns-then-bytes-first-offset c =
-    let e : count_fault (counts c.args.bytes.now) ≡ None = sym (ap count_fault c.counts-in-counts.ensures) ∙ sym c.in-ok-check-counts.ensures in
-    let is = c.counts-in-counts.ensures in
+returns-then-bytes-first_offset c =
+    let e : count_fault (counts c.args.bytes.now) ≡ None = sym (ap count_fault c.counts_in-counts.ensures) ∙ sym c.in_ok-check_counts.ensures in
+    let is = c.counts_in-counts.ensures in
     record { judged = simp first_unless (rw e (grind (arith, nat_tests))); value = tt }
 
 pub returns : goal.returns

@@ -11,14 +11,14 @@ use Rattle.reading.proofs.Pieces.{judged_at}
 use Rattle.reading.proofs.NameSteps.{name_byte, name_twice, name_more, earlier_more}
 use Rattle.reading.proofs.names.check_names.Goals as goal
 
-pub returns-in-err-check-bytes : goal.returns-in-err-check-bytes
-returns-in-err-check-bytes c =
+pub returns-in_err-check_bytes : goal.returns-in_err-check_bytes
+returns-in_err-check_bytes c =
     let bytes = c.args.bytes.now in
     let ss = table bytes in
     let i = c.loop-pair.pair in
     let within : i < length ss = omega (arith, length-table bytes, c.requires.1.1) in
-    let judged : byte_fault (get_or ss i nowhere).offset (cut bytes (get_or ss i nowhere)) ≡ Some c.in-err-check-bytes.field-0.0 =
-    judged_at byte_fault bytes ss i _ _ _ c.span-at.ensures.value c.piece-at.ensures.value c.in-err-check-bytes.ensures in
+    let judged : byte_fault (get_or ss i nowhere).offset (cut bytes (get_or ss i nowhere)) ≡ Some c.in_err-check_bytes.field-0.0 =
+    judged_at byte_fault bytes ss i _ _ _ c.span_at.ensures.value c.piece_at.ensures.value c.in_err-check_bytes.ensures in
     let p = err_from_is_err_and c.from-residual.result c.from-residual.ensures.1 in
     rw (p.1, p.2) (sym (name_byte bytes ss i c.args.end c.loop-pair-test.true within _ _ judged) ∙ c.loop-pair.invariant)
 
@@ -29,7 +29,7 @@ returns-then-repeats c =
     let i = c.loop-pair.pair in
     let within : i < length ss = omega (arith, length-table bytes, c.requires.first_le_end.1) in
     let judged : byte_fault (get_or ss i nowhere).offset (cut bytes (get_or ss i nowhere)) ≡ None =
-    judged_at byte_fault bytes ss i _ _ _ c.span_at.ensures.value c.piece_at.ensures.value c.in-ok-check-bytes.ensures in
+    judged_at byte_fault bytes ss i _ _ _ c.span_at.ensures.value c.piece_at.ensures.value c.in_ok-check_bytes.ensures in
     sym (name_twice bytes ss i c.args.end c.loop-pair-test.true within _ judged (sym c.if-repeats.ensures)) ∙ c.loop-pair.invariant
 
 pub loop-pair-preserved : goal.loop-pair-preserved
@@ -39,6 +39,6 @@ loop-pair-preserved c =
     let i = c.loop-pair.pair in
     let within : i < length ss = omega (arith, length-table bytes, c.requires.first_le_end.1) in
     let judged : byte_fault (get_or ss i nowhere).offset (cut bytes (get_or ss i nowhere)) ≡ None =
-    judged_at byte_fault bytes ss i _ _ _ c.span_at.ensures.value c.piece_at.ensures.value c.in-ok-check-bytes.ensures in
+    judged_at byte_fault bytes ss i _ _ _ c.span_at.ensures.value c.piece_at.ensures.value c.in_ok-check_bytes.ensures in
     ap (λ names. name_fault bytes (i + 1) names (between (i + 1) c.args.end ss)) (earlier_more bytes ss c.args.first i c.loop-pair.auto.pair within)
     ∙ sym (name_more bytes ss i c.args.end c.loop-pair-test.true within _ judged (sym c.if-repeats.ensures)) ∙ c.loop-pair.invariant

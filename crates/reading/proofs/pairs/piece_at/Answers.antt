@@ -3,9 +3,9 @@ use Rattle.sheet.specs.Decode.{cut}
 use Rattle.reading.proofs.Pieces.{piece_within}
 use Rattle.reading.proofs.pairs.piece_at.Goals as goal
 
-pub slice-bounds-result-end : goal.slice-bounds-result-end
-slice-bounds-result-end c =
-    let e = c.span-at-offset.ensures.value in
+pub slice_bounds-result-end : goal.slice_bounds-result-end
+slice_bounds-result-end c =
+    let e = c.span_at-offset.ensures.value in
     omega (arith, piece_within c.args.bytes.now c.requires.0 c.args.pair c.requires.1, ap (λ s. s.offset) e, ap (λ s. s.size) e)
 
 pub returns : goal.returns

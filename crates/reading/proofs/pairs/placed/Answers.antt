@@ -3,10 +3,10 @@ use Rattle.std.proofs.lemmas.Bool.Decides.{nat_tests}
 use Rattle.sheet.specs.Refuse.{placed}
 use Rattle.reading.proofs.pairs.placed.Goals as goal
 
-pub returns-then-has-size : goal.returns-then-has-size
+pub returns-then-has_size : goal.returns-then-has_size
 unfolding placed
-returns-then-has-size c = grind (arith, nat_tests)
+returns-then-has_size c = grind (arith, nat_tests)
 
-pub returns-else-has-size : goal.returns-else-has-size
+pub returns-else-has_size : goal.returns-else-has_size
 unfolding placed
-returns-else-has-size c = grind (arith, nat_tests)
+returns-else-has_size c = grind (arith, nat_tests)

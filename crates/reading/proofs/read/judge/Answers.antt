@@ -20,47 +20,47 @@ module _ (bytes : List ℕ) (k : Counts) (is : k ≡ counts bytes) where
       ap (λ m. name_fault bytes k.roles [] (take m (drop k.roles (table bytes)))) e
       ∙ ap (λ x. name_fault bytes x.roles [] (take x.labels (drop x.roles (table bytes)))) is
 
-pub returns-in-err-counts : goal.returns-in-err-counts
+pub returns-in_err-counts : goal.returns-in_err-counts
 unfolding fault
-returns-in-err-counts c =
+returns-in_err-counts c =
     let bytes = c.args.bytes.now in
-    let header : header_fault bytes ≡ Some c.in-err-counts.field-0.0 = sym c.in-err-counts.ensures.judged in
+    let header : header_fault bytes ≡ Some c.in_err-counts.field-0.0 = sym c.in_err-counts.ensures.judged in
     let p = err_from_is_err_and c.from-residual.result c.from-residual.ensures.1 in
     rw (p.1, p.2) (rw header)
 
-pub returns-in-err-check-pairs : goal.returns-in-err-check-pairs
+pub returns-in_err-check_pairs : goal.returns-in_err-check_pairs
 unfolding fault
-returns-in-err-check-pairs c =
+returns-in_err-check_pairs c =
     let bytes = c.args.bytes.now in
-    let header : header_fault bytes ≡ None = sym c.in-ok-counts.ensures.judged in
-    let pairs : table_fault bytes ≡ Some c.in-err-check-pairs.field-0.0 = sym c.in-err-check-pairs.ensures in
-    let p = err_from_is_err_and c.from-residual-in-err-check-pairs.result c.from-residual-in-err-check-pairs.ensures.1 in
+    let header : header_fault bytes ≡ None = sym c.in_ok-counts.ensures.judged in
+    let pairs : table_fault bytes ≡ Some c.in_err-check_pairs.field-0.0 = sym c.in_err-check_pairs.ensures in
+    let p = err_from_is_err_and c.from-residual-in_err-check_pairs.result c.from-residual-in_err-check_pairs.ensures.1 in
     rw (p.1, p.2) (rw (header, pairs))
 
-pub returns-in-err-check-names : goal.returns-in-err-check-names
+pub returns-in_err-check_names : goal.returns-in_err-check_names
 unfolding fault
-returns-in-err-check-names c =
+returns-in_err-check_names c =
     let bytes = c.args.bytes.now in
-    let k = c.in-ok-counts.counts in
-    let is : k ≡ counts bytes = c.in-ok-counts.ensures.value.0 in
-    let header : header_fault bytes ≡ None = sym c.in-ok-counts.ensures.judged in
-    let pairs : table_fault bytes ≡ None = sym c.in-ok-check-pairs.ensures in
-    let roles : name_fault bytes 0 [] (role_spans bytes) ≡ Some c.in-err-check-names.field-0.0 = sym (roles_are bytes k is) ∙ sym c.in-err-check-names.ensures in
-    let p = err_from_is_err_and c.from-residual-in-err-check-names.result c.from-residual-in-err-check-names.ensures.1 in
+    let k = c.in_ok-counts.counts in
+    let is : k ≡ counts bytes = c.in_ok-counts.ensures.value.0 in
+    let header : header_fault bytes ≡ None = sym c.in_ok-counts.ensures.judged in
+    let pairs : table_fault bytes ≡ None = sym c.in_ok-check_pairs.ensures in
+    let roles : name_fault bytes 0 [] (role_spans bytes) ≡ Some c.in_err-check_names.field-0.0 = sym (roles_are bytes k is) ∙ sym c.in_err-check_names.ensures in
+    let p = err_from_is_err_and c.from-residual-in_err-check_names.result c.from-residual-in_err-check_names.ensures.1 in
     rw (p.1, p.2) (rw (header, pairs, roles))
 
-pub returns-in-err-check-names-2 : goal.returns-in-err-check-names-2
+pub returns-in_err-check_names-2 : goal.returns-in_err-check_names-2
 unfolding fault
-returns-in-err-check-names-2 c =
+returns-in_err-check_names-2 c =
     let bytes = c.args.bytes.now in
-    let k = c.in-ok-counts.counts in
-    let is : k ≡ counts bytes = c.in-ok-counts.ensures.value.0 in
-    let header : header_fault bytes ≡ None = sym c.in-ok-counts.ensures.judged in
-    let pairs : table_fault bytes ≡ None = sym c.in-ok-check-pairs.ensures in
-    let roles : name_fault bytes 0 [] (role_spans bytes) ≡ None = sym (roles_are bytes k is) ∙ sym c.in-ok-check-names.ensures in
-    let labels : name_fault bytes (counts bytes).roles [] (label_spans bytes) ≡ Some c.in-err-check-names-2.field-0.0 =
-    sym (labels_are bytes k is c.name-count.result c.name-count.ensures) ∙ sym c.in-err-check-names-2.ensures in
-    let p = err_from_is_err_and c.from-residual-in-err-check-names-2.result c.from-residual-in-err-check-names-2.ensures.1 in
+    let k = c.in_ok-counts.counts in
+    let is : k ≡ counts bytes = c.in_ok-counts.ensures.value.0 in
+    let header : header_fault bytes ≡ None = sym c.in_ok-counts.ensures.judged in
+    let pairs : table_fault bytes ≡ None = sym c.in_ok-check_pairs.ensures in
+    let roles : name_fault bytes 0 [] (role_spans bytes) ≡ None = sym (roles_are bytes k is) ∙ sym c.in_ok-check_names.ensures in
+    let labels : name_fault bytes (counts bytes).roles [] (label_spans bytes) ≡ Some c.in_err-check_names-2.field-0.0 =
+    sym (labels_are bytes k is c.name_count.result c.name_count.ensures) ∙ sym c.in_err-check_names-2.ensures in
+    let p = err_from_is_err_and c.from-residual-in_err-check_names-2.result c.from-residual-in_err-check_names-2.ensures.1 in
     rw (p.1, p.2) (rw (header, pairs, roles, labels))
 
 pub returns : goal.returns
@@ -73,5 +73,5 @@ returns c =
     let pairs : table_fault bytes ≡ None = sym c.in_ok-check_pairs.ensures in
     let roles : name_fault bytes 0 [] (role_spans bytes) ≡ None = sym (roles_are bytes k is) ∙ sym c.in_ok-check_names.ensures in
     let labels : name_fault bytes (counts bytes).roles [] (label_spans bytes) ≡ None =
-    sym (labels_are bytes k is c.name-count.result c.name-count.ensures) ∙ sym c.in-ok-check-names-2.ensures in
-    rw (header, pairs, roles, labels) (c.check-states.ensures ∙ ap (λ x. states_fault x bytes (state_spans bytes)) is)
+    sym (labels_are bytes k is c.name_count.result c.name_count.ensures) ∙ sym c.in_ok-check_names-2.ensures in
+    rw (header, pairs, roles, labels) (c.check_states.ensures ∙ ap (λ x. states_fault x bytes (state_spans bytes)) is)

@@ -3,11 +3,11 @@ use Rattle.sheet.specs.Refuse.{fault}
 use Rattle.sheet.proofs.Clean.{length-bound}
 use Rattle.reading.proofs.read.keep.Goals as goal
 
-pub copy-front-requires : goal.copy-front-requires
-copy-front-requires c = length-bound c.args.bytes.now c.requires
+pub copy_front-requires : goal.copy_front-requires
+copy_front-requires c = length-bound c.args.bytes.now c.requires
 
-pub invariant-of-result : goal.invariant-of-result
-invariant-of-result c = (
+pub invariant_of-result : goal.invariant_of-result
+invariant_of-result c = (
   length-bound c.args.bytes.now c.requires,
-  (ap (λ bytes. is_some (fault bytes)) c.copy-front.ensures ∙ ap is_some c.requires, tt),
+  (ap (λ bytes. is_some (fault bytes)) c.copy_front.ensures ∙ ap is_some c.requires, tt),
 )

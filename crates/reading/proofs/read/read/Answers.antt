@@ -27,10 +27,10 @@ reads bytes s fits clean is = record {
   only = λ sh e. sym (model_encode sh) ∙ ap model (e.bytes_are ∙ sym is);
 }
 
-pub returns-in-err-judge : goal.returns-in-err-judge
-returns-in-err-judge c =
+pub returns-in_err-judge : goal.returns-in_err-judge
+returns-in_err-judge c =
     let bytes = c.args.bytes.now in
-    let e : fault bytes ≡ Some c.in-err-judge.field-0.0 = sym c.in-err-judge.ensures in
+    let e : fault bytes ≡ Some c.in_err-judge.field-0.0 = sym c.in_err-judge.ensures in
     let p = err_from_is_err_and c.from-residual.result c.from-residual.ensures.1 in
     rw (p.1, p.2) (record { judged = sym e; whole = refused bytes _ e })
 
@@ -38,5 +38,5 @@ pub returns : goal.returns
 returns c =
     let bytes = c.args.bytes.now in
     let e : fault bytes ≡ None = sym c.in_ok-judge.ensures in
-    let fits : Bytes bytes = All-from_get_or (λ b. b < 256) bytes 0 (λ i _. omega (arith, c.type-inv.bytes i)) in
+    let fits : Bytes bytes = All-from_get_or (λ b. b < 256) bytes 0 (λ i _. omega (arith, c.type_inv.bytes i)) in
     record { judged = sym e; whole = reads bytes c.keep.result fits e c.keep.ensures }

@@ -12,13 +12,13 @@ pub returns-then-branch-counts-2 : goal.returns-then-branch-counts-2
 unfolding branch_fault
 returns-then-branch-counts-2 c = simp first_unless (grind (arith, nat_tests))
 
-pub returns-then-not-is-row : goal.returns-then-not-is-row
+pub returns-then-not-is_row : goal.returns-then-not-is_row
 unfolding branch_fault
-returns-then-not-is-row c = simp first_unless (grind (arith, nat_tests))
+returns-then-not-is_row c = simp first_unless (grind (arith, nat_tests))
 
-pub returns-then-not-is-row-2 : goal.returns-then-not-is-row-2
+pub returns-then-not-is_row-2 : goal.returns-then-not-is_row-2
 unfolding branch_fault
-returns-then-not-is-row-2 c = simp first_unless (grind (arith, nat_tests))
+returns-then-not-is_row-2 c = simp first_unless (grind (arith, nat_tests))
 
 pub returns-then-branch-gt3 : goal.returns-then-branch-gt3
 unfolding branch_fault

@@ -18,15 +18,15 @@ module _ (counts : Counts) (bytes : List ℕ) (ss : List Span) (i : ℕ) (h : i 
   more : state_fault counts (get_or ss i nowhere).offset (state_at bytes (get_or ss i nowhere)) ≡ None → states_fault counts bytes (drop i ss) ≡ states_fault counts bytes (drop (i + 1) ss)
   more e = at_drop_more (states_fault counts bytes) ss i nowhere h ∙ rw e
 
-pub returns-in-err-check-state : goal.returns-in-err-check-state
-returns-in-err-check-state c =
+pub returns-in_err-check_state : goal.returns-in_err-check_state
+returns-in_err-check_state c =
     let bytes = c.args.bytes.now in
     let ss = table bytes in
     let i = c.loop-pair.pair in
     let k = c.args.counts in
-    let within : i < length ss = omega (arith, length-table bytes, c.piece-count-pair-end.ensures, ap piece_count_in c.requires.1) in
-    let judged : state_fault k (get_or ss i nowhere).offset (state_at bytes (get_or ss i nowhere)) ≡ Some c.in-err-check-state.field-0.0 =
-    judged_at (λ o p. state_fault k o (state_of p)) bytes ss i _ _ _ c.span-at.ensures.value c.piece-at.ensures.value c.in-err-check-state.ensures in
+    let within : i < length ss = omega (arith, length-table bytes, c.piece_count-pair-end.ensures, ap piece_count_in c.requires.1) in
+    let judged : state_fault k (get_or ss i nowhere).offset (state_at bytes (get_or ss i nowhere)) ≡ Some c.in_err-check_state.field-0.0 =
+    judged_at (λ o p. state_fault k o (state_of p)) bytes ss i _ _ _ c.span_at.ensures.value c.piece_at.ensures.value c.in_err-check_state.ensures in
     let p = err_from_is_err_and c.from-residual.result c.from-residual.ensures.1 in
     rw (p.1, p.2) (sym (here k bytes ss i within _ judged) ∙ c.loop-pair.invariant)
 
@@ -38,7 +38,7 @@ loop-pair-preserved c =
     let k = c.args.counts in
     let within : i < length ss = omega (arith, length-table bytes, c.piece_count-pair-end.ensures, ap piece_count_in c.requires.counts_value) in
     let judged : state_fault k (get_or ss i nowhere).offset (state_at bytes (get_or ss i nowhere)) ≡ None =
-    judged_at (λ o p. state_fault k o (state_of p)) bytes ss i _ _ _ c.span_at.ensures.value c.piece-at.ensures.value c.in-ok-check-state.ensures in
+    judged_at (λ o p. state_fault k o (state_of p)) bytes ss i _ _ _ c.span_at.ensures.value c.piece_at.ensures.value c.in_ok-check_state.ensures in
     sym (more k bytes ss i within judged) ∙ c.loop-pair.invariant
 
 pub loop-pair-init : goal.loop-pair-init

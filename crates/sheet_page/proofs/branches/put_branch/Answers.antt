@@ -18,5 +18,5 @@ returns c =
     let last : List ℕ → List ℕ = tail (decimal b.next) (time_of b.send) (time_of b.receive) in
     let x = said c.args.text.now in
     ends c.writeln.result x _ _ (codes "  " ++ name) (last c.clocks-clocks.result.now) _
-    (further x _ _ (codes "  ") name c.in-ok-put.ensures (c.in-ok-put-2.ensures ∙ ap (λ w. said c.put.new.self ++ w) c.part.ensures))
+    (further x _ _ (codes "  ") name c.in_ok-put.ensures (c.in_ok-put-2.ensures ∙ ap (λ w. said c.put.new.self ++ w) c.part.ensures))
     (ap (λ clocks. codes "  " ++ (name ++ last clocks)) c.clocks-clocks.ensures) c.writeln.ensures

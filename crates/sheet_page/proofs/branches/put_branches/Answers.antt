@@ -11,7 +11,7 @@ loop-branch-preserved c =
     let tell = branch_line (sheet_of c.args.sheet.now) in
     let was = said c.loop-branch.text in
     let rest = branches c.in-Some.rest.now in
-    ap (λ t. t ++ flat_map tell rest) c.in-ok-put-branch.ensures
+    ap (λ t. t ++ flat_map tell rest) c.in_ok-put_branch.ensures
     ∙ append_assoc was (tell c.in-Some.branch) (flat_map tell rest)
     ∙ ap (λ bs. was ++ flat_map tell bs) (sym c.in-Some.ensures.0)
     ∙ c.loop-branch.invariant
@@ -20,4 +20,4 @@ pub returns : goal.returns
 returns c =
     let tell = branch_line (sheet_of c.args.sheet.now) in
     let was = said c.loop-branch.text in
-    sym (append-nil was) ∙ ap (λ bs. was ++ flat_map tell bs) (sym c.in-default.ensures) ∙ c.loop-branch.invariant
+    sym (append-nil was) ∙ ap (λ bs. was ++ flat_map tell bs) (sym c.in_default.ensures) ∙ c.loop-branch.invariant

@@ -17,5 +17,5 @@ returns c =
     let first = heading ++ (codes " " ++ (number ++ codes " ")) in
     let x = said c.args.text.now in
     ends c.writeln.result x _ _ (first ++ name) (codes "\n") _
-    (further x _ _ first name c.in-ok-write.ensures c.in-ok-put.ensures)
+    (further x _ _ first name c.in_ok-write.ensures c.in_ok-put.ensures)
     (whole heading number name) c.writeln.ensures

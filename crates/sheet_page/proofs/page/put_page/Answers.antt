@@ -15,7 +15,7 @@ returns c =
     let counts = counts_line (counts_of sh) in
     let roles = numbered (name_line (codes "MODULE")) 0 sh.roles in
     let labels = numbered (name_line (codes "LABEL")) 0 sh.labels in
-    let counted = c.in-ok-put-counts.ensures ∙ ap (λ k. x ++ counts_line k) c.counts.ensures.value in
-    let named = further x _ _ counts roles counted c.in-ok-put-names.ensures in
-    let both = further x _ _ (counts ++ roles) labels named c.in-ok-put-names-2.ensures in
-    ends c.put-states.result x _ _ (counts ++ roles ++ labels) (numbered (state_lines sh) 0 sh.states) _ both refl c.put-states.ensures
+    let counted = c.in_ok-put_counts.ensures ∙ ap (λ k. x ++ counts_line k) c.counts.ensures.value in
+    let named = further x _ _ counts roles counted c.in_ok-put_names.ensures in
+    let both = further x _ _ (counts ++ roles) labels named c.in_ok-put_names-2.ensures in
+    ends c.put_states.result x _ _ (counts ++ roles ++ labels) (numbered (state_lines sh) 0 sh.states) _ both refl c.put_states.ensures

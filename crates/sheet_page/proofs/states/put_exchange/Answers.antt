@@ -19,7 +19,7 @@ returns c =
     let receiver = role_name sh c.args.receiver in
     let head = codes "STATE " ++ (number ++ codes " ") in
     let x = said c.args.text.now in
-    let named = further x _ _ head sender c.in-ok-write.ensures (c.in-ok-put.ensures ∙ ap (λ w. said c.write.new.self ++ w) c.part.ensures) in
-    let to = further x _ _ (head ++ sender) (codes " to ") named c.in-ok-put-2.ensures in
-    let both = further x _ _ (head ++ sender ++ codes " to ") receiver to (c.in-ok-put-3.ensures ∙ ap (λ w. said c.put-2.new.self ++ w) c.part-2.ensures) in
+    let named = further x _ _ head sender c.in_ok-write.ensures (c.in_ok-put.ensures ∙ ap (λ w. said c.write.new.self ++ w) c.part.ensures) in
+    let to = further x _ _ (head ++ sender) (codes " to ") named c.in_ok-put-2.ensures in
+    let both = further x _ _ (head ++ sender ++ codes " to ") receiver to (c.in_ok-put-3.ensures ∙ ap (λ w. said c.put-2.new.self ++ w) c.part-2.ensures) in
     ends c.writeln.result x _ _ (head ++ sender ++ codes " to " ++ receiver) (codes "\n") _ both (whole number sender receiver) c.writeln.ensures

@@ -2,12 +2,12 @@ use Rattle.std.proofs.Common.{append_assoc}
 use Rattle.sheet_page.specs.Page.{state_lines}
 use Rattle.sheet_page.proofs.states.put_state.Goals as goal
 
-pub returns-in-default : goal.returns-in-default
+pub returns-in_default : goal.returns-in_default
 unfolding state_lines
-returns-in-default c = rw c.in-default.ensures c.put-end.ensures
+returns-in_default c = rw c.in_default.ensures c.put_end.ensures
 
 pub returns : goal.returns
 unfolding state_lines
 returns c =
-    let first = c.in-ok-put-exchange.ensures in
-    rw c.in-Some.ensures.0 (simp (first, append_assoc) at c.put-branches.ensures)
+    let first = c.in_ok-put_exchange.ensures in
+    rw c.in-Some.ensures.0 (simp (first, append_assoc) at c.put_branches.ensures)

@@ -32,18 +32,18 @@ module _ (row : List ℕ) (period first width : ℕ) (read : Read row period fir
 
 pub returns-then-first-width : goal.returns-then-first-width
 returns-then-first-width c =
-    let a = c.in-ok-period.ensures in
-    let b = c.in-ok-first.ensures in
-    let d = c.in-ok-width.ensures in
-    let read = numbers c.args.bytes.now c.in-ok-period.rest.now c.in-ok-first.rest.now _ _ _ a.1 a.2 b.1 b.2 d.1 in
+    let a = c.in_ok-period.ensures in
+    let b = c.in_ok-first.ensures in
+    let d = c.in_ok-width.ensures in
+    let read = numbers c.args.bytes.now c.in_ok-period.rest.now c.in_ok-first.rest.now _ _ _ a.1 a.2 b.1 b.2 d.1 in
     ((λ _. kept c.args.bytes.now _ _ _ read (omega (arith, c.if-width-ge1.true)) (omega (arith, c.if-first-width.true))), read)
 
 pub returns-else-width-ge1 : goal.returns-else-width-ge1
 returns-else-width-ge1 c =
-    let a = c.in-ok-period.ensures in
-    let b = c.in-ok-first.ensures in
-    let d = c.in-ok-width.ensures in
-    let read = numbers c.args.bytes.now c.in-ok-period.rest.now c.in-ok-first.rest.now _ _ _ a.1 a.2 b.1 b.2 d.1 in (
+    let a = c.in_ok-period.ensures in
+    let b = c.in_ok-first.ensures in
+    let d = c.in_ok-width.ensures in
+    let read = numbers c.args.bytes.now c.in_ok-period.rest.now c.in_ok-first.rest.now _ _ _ a.1 a.2 b.1 b.2 d.1 in (
       (λ _. broken c.args.bytes.now _ _ _ read
           (λ h k. elim c.else-width-ge1.branch [
             | else-width-ge1-via-then-width-ge1+else-first-width w ↦ omega (arith, k, w.if-first-width.false)

@@ -15,6 +15,6 @@ returns g c =
       same = λ row v. subst
           (λ (m : Margin g.row.B.Denot). Same (Near (g.B.TimeBook.admits m.below row) m.by v) (Near (Near (g.B.TimeBook.admits b row) d) e v))
           (sym c.over.ensures)
-          (capped (g.B.TimeBook.admits b row) (g.B.TimeBook.bounded.ranged b row) d e c.saturating-add.result v c.saturating-add.ensures);
+          (capped (g.B.TimeBook.admits b row) (g.B.TimeBook.bounded.ranged b row) d e c.saturating_add.result v c.saturating_add.ensures);
       law = λ b row. piled (g.B.TimeBook.admits b row) (g.B.TimeBook.bounded.ranged b row);
     }

@@ -6,13 +6,13 @@ use Rattle.channels.specs.Waiting.{channel, ring}
 use Rattle.channels.proofs.Rows.{channel_resumed, changed, put_back, ring_within}
 use Rattle.channels.proofs.channels.Channels.send.Goals as goal
 
-pub returns-in-err-push : goal.returns-in-err-push
-returns-in-err-push c =
+pub returns-in_err-push : goal.returns-in_err-push
+returns-in_err-push c =
     let ch = c.args.self.now in
     let ix = c.in-Some.ensures in
     let q = c.resume-queue.result in
     let was = c.resume-queue.ensures in
-    let no = c.in-err-push.ensures in
+    let no = c.in_err-push.ensures in
     let eight : length q.slots.now ≡ 8 = search rules in
     let is = channel_resumed ch c.args.from c.args.to c.in-Some.i ix.0.0 ix.0.1 ix.1 q.slots.now q.first q.count was.slots was.place.0 was.place.1 in
     let len : length (channel ch c.args.from c.args.to) ≡ q.count = ap length is ∙ length-held q.slots.now q.first q.count q.begins q.fits in

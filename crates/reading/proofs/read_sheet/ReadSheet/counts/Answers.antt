@@ -5,8 +5,8 @@ use Rattle.reading.specs.Handing.{counts_of}
 use Rattle.reading.proofs.Handing.{counts_are}
 use Rattle.reading.proofs.read_sheet.ReadSheet.counts.Goals as goal
 
-pub counts-in-requires : goal.counts-in-requires
-counts-in-requires c = omega (arith, pairs_there c.bytes.result.now c.bytes.ensures.sound)
+pub counts_in-requires : goal.counts_in-requires
+counts_in-requires c = omega (arith, pairs_there c.bytes.result.now c.bytes.ensures.sound)
 
 pub returns : goal.returns
 returns c =

@@ -28,22 +28,22 @@ module _ (bytes whole : List ℕ) (is : bytes ≡ whole) (clean : fault bytes �
   compared r piece name e p =
       sym (e ∙ ap (λ n. same n name) (p ∙ ap (λ i. cut bytes (get_or (table bytes) (i + l) nowhere)) roles ∙ piece_is bytes clean Label l below ∙ ap (λ b. get_or (model b).labels l []) is))
 
-pub piece-at-requires : goal.piece-at-requires
-piece-at-requires c =
+pub piece_at-requires : goal.piece_at-requires
+piece_at-requires c =
     let bytes = c.bytes-bytes.result.now in (
       tiled_from_clean bytes c.bytes-bytes.ensures.sound,
       there bytes _ c.bytes-bytes.ensures.value c.bytes-bytes.ensures.sound c.counts-counts.result c.counts-counts.ensures.read c.loop-label.label c.loop-label-test.true,
     )
 
-pub returns-then-same-name : goal.returns-then-same-name
-returns-then-same-name c =
+pub returns-then-same_name : goal.returns-then-same_name
+returns-then-same_name c =
     let sh = sheet_of c.args.self.now in
     let name = c.args.name.now in
     let l = c.loop-label.label in
     let is = c.bytes-bytes.ensures.value in
     let found : same (get_or sh.labels l []) name ≡ true =
     compared c.bytes-bytes.result.now _ is c.bytes-bytes.ensures.sound c.counts-counts.result c.counts-counts.ensures.read l c.loop-label-test.true
-    true c.piece-at.result.now name c.if-same-name.ensures.value c.piece-at.ensures.value in
+    true c.piece_at.result.now name c.if-same_name.ensures.value c.piece_at.ensures.value in
     let inside : l < length sh.labels = omega (arith, ap (λ x. x.labels) c.counts-counts.ensures.value, c.loop-label-test.true) in
     let distinct = labels_distinct (bytes_of c.args.self.now) (ap fault (sym is) ∙ c.bytes-bytes.ensures.sound) in
     let f : Finds sh name (Some l) = ((inside, found), λ j b. only_one sh distinct name l j (inside, found) b) in

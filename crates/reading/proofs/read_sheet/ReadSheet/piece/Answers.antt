@@ -35,15 +35,15 @@ pair_there bytes clean k is kind n place e h =
     let inside : n < piece_count_of (counts bytes) kind = omega arith in
     (inside, first, subst (λ f. f + n < piece_count_in (counts bytes)) (sym first) (pair_below bytes clean kind n inside))
 
-pub piece-at-requires : goal.piece-at-requires
-piece-at-requires c =
+pub piece_at-requires : goal.piece_at-requires
+piece_at-requires c =
     let bytes = c.bytes-bytes.result.now in
     let clean = c.bytes-bytes.ensures.sound in
     let k = c.counts.ensures.read ∙ ap counts (sym c.bytes-bytes.ensures.value) in
     (tiled_from_clean bytes clean, (pair_there bytes clean c.counts.result k c.args.kind c.args.number c.place-first.result c.place-first.ensures c.if-number-count.false).2)
 
-pub span-at-requires : goal.span-at-requires
-span-at-requires c =
+pub span_at-requires : goal.span_at-requires
+span_at-requires c =
     let bytes = c.bytes-bytes.result.now in
     let clean = c.bytes-bytes.ensures.sound in
     let k = c.counts.ensures.read ∙ ap counts (sym c.bytes-bytes.ensures.value) in

@@ -8,19 +8,19 @@ use Rattle.session.proofs.Passage.{Leaves, watches_on, passing}
 use Rattle.session.proofs.Refusing.{stopping}
 use Rattle.session.proofs.session.Session.event.Goals as goal
 
-pub returns-in-err-step : goal.returns-in-err-step
-returns-in-err-step g c =
+pub returns-in_err-step : goal.returns-in_err-step
+returns-in_err-step g c =
     let p = err_from_is_err_and c.from-residual.result c.from-residual.ensures.1 in
     record {
       kept = search rules;
       stays = rw p.1 (search rules);
-      whole = λ sh opening depth es w. rw (p.1, p.2) (stopping sh (g.B.TimeBook.admits c.args.self.now.book) opening depth es c.args.self.now.accepted c.args.self.now.inner w c.args.event c.in-err-step.field-0.0 c.in-err-step.ensures);
+      whole = λ sh opening depth es w. rw (p.1, p.2) (stopping sh (g.B.TimeBook.admits c.args.self.now.book) opening depth es c.args.self.now.accepted c.args.self.now.inner w c.args.event c.in_err-step.field-0.0 c.in_err-step.ensures);
     }
 
 pub returns : goal.returns
 returns g c =
-    let step = c.in-ok-step.step in
-    let ok = c.in-ok-step.ensures in
+    let step = c.in_ok-step.step in
+    let ok = c.in_ok-step.ensures in
     let six : 6 ≤ length c.args.self.now.inner.records = c.pass.ensures.six in
     let leaves : Leaves c.args.self.now.inner c.args.event step c.pass.new.inner c.pass.result = record {
       records = c.pass.ensures.records;

@@ -12,5 +12,5 @@ returns-else-count-self g c =
     let p = c.in-Sending.partner in
     let room : length (channel s.inner.channels m p) < s.inner.depth = omega (arith, c.count.ensures.value, c.if-count-self.false) in
     λ h.
-    sends_least (g.B.TimeBook.admits s.book) s.inner m c.in-ok-set.set.now p (set_in_part s.accepted m (record_of s.inner m).set) s.inner.latest 4294967295 c.earliest.result
-    c.in-ok-set.ensures c.in-Sending.is room (c.earliest.ensures h)
+    sends_least (g.B.TimeBook.admits s.book) s.inner m c.in_ok-set.set.now p (set_in_part s.accepted m (record_of s.inner m).set) s.inner.latest 4294967295 c.earliest.result
+    c.in_ok-set.ensures c.in-Sending.is room (c.earliest.ensures h)
