@@ -8,14 +8,14 @@ use Rattle.input.proofs.split.split.Goals as goal
 
 pub returns-in_err-book : goal.returns-in_err-book
 returns-in_err-book c =
-    rw c.from-residual-in_err-book.ensures
+    rw c.from_residual-in_err-book.ensures
     (λ s b t es laid.
     let p = sized_same s (sized b ++ (four t ++ flat_map event_bytes es)) _ _ (laid.bytes_are ∙ sym c.in_ok-sheet.ensures.1) in
     c.in_err-book.ensures b (four t ++ flat_map event_bytes es) laid.book_fits p.1)
 
 pub returns-in_err-tick : goal.returns-in_err-tick
 returns-in_err-tick c =
-    rw c.from-residual-in_err-tick.ensures
+    rw c.from_residual-in_err-tick.ensures
     (λ s b t es laid.
     let p = sized_same s (sized b ++ (four t ++ flat_map event_bytes es)) _ _ (laid.bytes_are ∙ sym c.in_ok-sheet.ensures.1) in
     let q = sized_same b (four t ++ flat_map event_bytes es) _ _ (p.1 ∙ sym c.in_ok-book.ensures.1) in

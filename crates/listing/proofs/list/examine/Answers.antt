@@ -16,7 +16,7 @@ pub returns-in_err-read : goal.returns-in_err-read
 unfolding input_fault
 returns-in_err-read c =
     let fits : ltb 65535 (length c.args.input.now) ≡ false = le-ltb _ _ c.if-input-gt-MOST_INPUT.false in
-    let p = err_from_is_err_and c.from-residual.result c.from-residual.ensures.1 in
+    let p = err_from_is_err_and c.from_residual.result c.from_residual.ensures.1 in
     rw (p.1, p.2) (record { judged = ap (option_map Reading) c.in_err-read.ensures.judged ∙ sym (cond-false _ _ _ fits); value = tt })
 
 pub returns : goal.returns

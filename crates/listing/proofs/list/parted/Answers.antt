@@ -22,7 +22,7 @@ once_read input bytes o clean is e =
 
 pub returns-in_err-examine : goal.returns-in_err-examine
 returns-in_err-examine c =
-    let p = err_from_is_err_and c.from-residual.result c.from-residual.ensures.1 in
+    let p = err_from_is_err_and c.from_residual.result c.from_residual.ensures.1 in
     rw (p.1, p.2) (record { judged = unread c.args.input.now _ c.in_err-examine.ensures.judged; value = tt })
 
 pub returns-in-Ok : goal.returns-in-Ok

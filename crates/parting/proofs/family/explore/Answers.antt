@@ -42,7 +42,7 @@ returns-in_err-visit c =
     ap (λ m. visited c.args.role v c.args.labels l.set m found) t.is ∙ sym c.in_err-visit.ensures.value in
     let all : stopped f ≡ family_of c.args.role v c.args.labels =
     sym (explored_stop c.args.role v c.args.labels l.set found f (omega (arith, t.number, l.invariant.ready.few)) t.under stops) ∙ l.invariant.same in
-    let p = err_from_is_err_and c.from-residual.result c.from-residual.ensures.1 in
+    let p = err_from_is_err_and c.from_residual.result c.from_residual.ensures.1 in
     rw (p.1, p.2) (record { value = all; few = tt })
 
 pub overflow_add-set : goal.overflow_add-set

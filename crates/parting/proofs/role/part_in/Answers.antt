@@ -10,7 +10,7 @@ table-requires c =
 
 pub returns-in_err-sets : goal.returns-in_err-sets
 returns-in_err-sets c =
-    let p = err_from_is_err_and c.from-residual.result c.from-residual.ensures.1 in
+    let p = err_from_is_err_and c.from_residual.result c.from_residual.ensures.1 in
     rw (p.1, p.2) (sym c.in_err-sets.ensures.value)
 
 pub returns : goal.returns

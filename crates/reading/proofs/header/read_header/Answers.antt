@@ -17,7 +17,7 @@ returns-then-bytes-ne1 c = record { judged = simp first_unless (grind (arith, na
 pub returns-in_err-check_counts : goal.returns-in_err-check_counts
 unfolding header_fault
 returns-in_err-check_counts c =
-    let p = err_from_is_err_and c.from-residual.result c.from-residual.ensures.1 in
+    let p = err_from_is_err_and c.from_residual.result c.from_residual.ensures.1 in
     let e : count_fault (counts c.args.bytes.now) ≡ Some c.in_err-check_counts.field-0.0 = sym (ap count_fault c.counts_in-counts.ensures) ∙ sym c.in_err-check_counts.ensures in
     rw (p.1, p.2) (record { judged = simp first_unless (rw e (grind (arith, nat_tests))); value = tt })
 

@@ -19,7 +19,7 @@ returns-in_err-check_bytes c =
     let within : i < length ss = omega (arith, length-table bytes, c.requires.1.1) in
     let judged : byte_fault (get_or ss i nowhere).offset (cut bytes (get_or ss i nowhere)) ≡ Some c.in_err-check_bytes.field-0.0 =
     judged_at byte_fault bytes ss i _ _ _ c.span_at.ensures.value c.piece_at.ensures.value c.in_err-check_bytes.ensures in
-    let p = err_from_is_err_and c.from-residual.result c.from-residual.ensures.1 in
+    let p = err_from_is_err_and c.from_residual.result c.from_residual.ensures.1 in
     rw (p.1, p.2) (sym (name_byte bytes ss i c.args.end c.loop-pair-test.true within _ _ judged) ∙ c.loop-pair.invariant)
 
 pub returns-then-repeats : goal.returns-then-repeats

@@ -25,7 +25,7 @@ unfolding fault
 returns-in_err-counts c =
     let bytes = c.args.bytes.now in
     let header : header_fault bytes ≡ Some c.in_err-counts.field-0.0 = sym c.in_err-counts.ensures.judged in
-    let p = err_from_is_err_and c.from-residual.result c.from-residual.ensures.1 in
+    let p = err_from_is_err_and c.from_residual.result c.from_residual.ensures.1 in
     rw (p.1, p.2) (rw header)
 
 pub returns-in_err-check_pairs : goal.returns-in_err-check_pairs
@@ -34,7 +34,7 @@ returns-in_err-check_pairs c =
     let bytes = c.args.bytes.now in
     let header : header_fault bytes ≡ None = sym c.in_ok-counts.ensures.judged in
     let pairs : table_fault bytes ≡ Some c.in_err-check_pairs.field-0.0 = sym c.in_err-check_pairs.ensures in
-    let p = err_from_is_err_and c.from-residual-in_err-check_pairs.result c.from-residual-in_err-check_pairs.ensures.1 in
+    let p = err_from_is_err_and c.from_residual-in_err-check_pairs.result c.from_residual-in_err-check_pairs.ensures.1 in
     rw (p.1, p.2) (rw (header, pairs))
 
 pub returns-in_err-check_names : goal.returns-in_err-check_names
@@ -46,7 +46,7 @@ returns-in_err-check_names c =
     let header : header_fault bytes ≡ None = sym c.in_ok-counts.ensures.judged in
     let pairs : table_fault bytes ≡ None = sym c.in_ok-check_pairs.ensures in
     let roles : name_fault bytes 0 [] (role_spans bytes) ≡ Some c.in_err-check_names.field-0.0 = sym (roles_are bytes k is) ∙ sym c.in_err-check_names.ensures in
-    let p = err_from_is_err_and c.from-residual-in_err-check_names.result c.from-residual-in_err-check_names.ensures.1 in
+    let p = err_from_is_err_and c.from_residual-in_err-check_names.result c.from_residual-in_err-check_names.ensures.1 in
     rw (p.1, p.2) (rw (header, pairs, roles))
 
 pub returns-in_err-check_names-2 : goal.returns-in_err-check_names-2
@@ -60,7 +60,7 @@ returns-in_err-check_names-2 c =
     let roles : name_fault bytes 0 [] (role_spans bytes) ≡ None = sym (roles_are bytes k is) ∙ sym c.in_ok-check_names.ensures in
     let labels : name_fault bytes (counts bytes).roles [] (label_spans bytes) ≡ Some c.in_err-check_names-2.field-0.0 =
     sym (labels_are bytes k is c.name_count.result c.name_count.ensures) ∙ sym c.in_err-check_names-2.ensures in
-    let p = err_from_is_err_and c.from-residual-in_err-check_names-2.result c.from-residual-in_err-check_names-2.ensures.1 in
+    let p = err_from_is_err_and c.from_residual-in_err-check_names-2.result c.from_residual-in_err-check_names-2.ensures.1 in
     rw (p.1, p.2) (rw (header, pairs, roles, labels))
 
 pub returns : goal.returns

@@ -31,7 +31,7 @@ pub returns-in_err-judge : goal.returns-in_err-judge
 returns-in_err-judge c =
     let bytes = c.args.bytes.now in
     let e : fault bytes ≡ Some c.in_err-judge.field-0.0 = sym c.in_err-judge.ensures in
-    let p = err_from_is_err_and c.from-residual.result c.from-residual.ensures.1 in
+    let p = err_from_is_err_and c.from_residual.result c.from_residual.ensures.1 in
     rw (p.1, p.2) (record { judged = sym e; whole = refused bytes _ e })
 
 pub returns : goal.returns

@@ -4,7 +4,7 @@ use Rattle.channels.proofs.Rows.{channel_at, no_channel}
 use Rattle.channels.proofs.channels.Channels.oldest.Goals as goal
 
 pub returns-in_err-i : goal.returns-in_err-i
-returns-in_err-i c = c.from-residual.ensures ∙ sym (ap first (no_channel c.args.self.now c.args.from c.args.to c.in_err-i.ensures))
+returns-in_err-i c = c.from_residual.ensures ∙ sym (ap first (no_channel c.args.self.now c.args.from c.args.to c.in_err-i.ensures))
 
 pub returns : goal.returns
 returns c =

@@ -17,7 +17,7 @@ returns-in_err-push c =
     let is = channel_resumed ch c.args.from c.args.to c.in-Some.i ix.0.0 ix.0.1 ix.1 q.slots.now q.first q.count was.slots was.place.0 was.place.1 in
     let len : length (channel ch c.args.from c.args.to) ≡ q.count = ap length is ∙ length-held q.slots.now q.first q.count q.begins q.fits in
     let full : 8 ≤ length (channel ch c.args.from c.args.to) = omega (arith, len, eight, no.held.1) in
-    let p = err_from_is_err_and c.from-residual.result c.from-residual.ensures.1 in
+    let p = err_from_is_err_and c.from_residual.result c.from_residual.ensures.1 in
     rw (p.1, p.2) (no.held.0, put_back ch c.in-Some.i c.push.new.self.slots.now q.slots.now no.held.2 was.slots, (λ _ _. full))
 
 pub returns : goal.returns

@@ -7,7 +7,7 @@ use Rattle.channels.proofs.channels.Channels.take.Goals as goal
 pub returns-in_err-i : goal.returns-in_err-i
 returns-in_err-i c =
     let none = no_channel c.args.self.now c.args.from c.args.to c.in_err-i.ensures in
-    rw c.from-residual.ensures (record { answer = sym (ap first none); rest = unchanged c.args.self.now c.args.self.now c.args.from c.args.to refl none; kept = refl })
+    rw c.from_residual.ensures (record { answer = sym (ap first none); rest = unchanged c.args.self.now c.args.self.now c.args.from c.args.to refl none; kept = refl })
 
 pub returns-in_err-message : goal.returns-in_err-message
 returns-in_err-message c =
@@ -19,7 +19,7 @@ returns-in_err-message c =
     let is = channel_resumed ch c.args.from c.args.to c.in_ok-i.i ix.0.0 ix.0.1 ix.1 q.slots.now q.first q.count was.slots was.place.0 was.place.1 in
     let none = is ∙ no.held.0 in
     let same = put_back ch c.in_ok-i.i c.pop.new.self.slots.now q.slots.now no.slots was.slots in
-    rw c.from-residual-in_err-message.ensures (record { answer = sym (ap first none); rest = unchanged ch _ c.args.from c.args.to same none; kept = same })
+    rw c.from_residual-in_err-message.ensures (record { answer = sym (ap first none); rest = unchanged ch _ c.args.from c.args.to same none; kept = same })
 
 pub returns : goal.returns
 returns c =

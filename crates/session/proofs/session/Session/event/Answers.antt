@@ -10,7 +10,7 @@ use Rattle.session.proofs.session.Session.event.Goals as goal
 
 pub returns-in_err-step : goal.returns-in_err-step
 returns-in_err-step g c =
-    let p = err_from_is_err_and c.from-residual.result c.from-residual.ensures.1 in
+    let p = err_from_is_err_and c.from_residual.result c.from_residual.ensures.1 in
     record {
       kept = search rules;
       stays = rw p.1 (search rules);
