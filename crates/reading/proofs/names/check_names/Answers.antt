@@ -16,7 +16,7 @@ returns-in_err-check_bytes c =
     let bytes = c.args.bytes.now in
     let ss = table bytes in
     let i = c.loop-pair.pair in
-    let within : i < length ss = omega (arith, length-table bytes, c.requires.1.1) in
+    let within : i < length ss = omega (arith, length-table bytes, c.requires.first_le_end.1) in
     let judged : byte_fault (get_or ss i nowhere).offset (cut bytes (get_or ss i nowhere)) ≡ Some c.in_err-check_bytes.field-0.0 =
     judged_at byte_fault bytes ss i _ _ _ c.span_at.ensures.value c.piece_at.ensures.value c.in_err-check_bytes.ensures in
     let p = err_from_is_err_and c.from_residual.result c.from_residual.ensures.1 in

@@ -17,7 +17,7 @@ returns-then-same_name c =
     let bytes = c.args.bytes.now in
     let ss = table bytes in
     let j = c.loop-earlier.earlier in
-    let within : j < length ss = omega (arith, length-table bytes, c.requires.1.1) in
+    let within : j < length ss = omega (arith, length-table bytes, c.requires.first_le_pair.1) in
     let found : same (cut bytes (get_or ss c.args.pair nowhere)) (cut bytes (get_or ss j nowhere)) ≡ true = compared bytes ss c.args.pair j _ _ _ c.piece_at-name.ensures.value c.piece_at.ensures.value c.if-same_name.ensures.value in
     sym (among_here bytes ss j c.args.pair c.loop-earlier-test.true within _ found) ∙ c.loop-earlier.invariant
 

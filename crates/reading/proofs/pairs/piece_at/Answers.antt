@@ -6,7 +6,7 @@ use Rattle.reading.proofs.pairs.piece_at.Goals as goal
 pub slice_bounds-result-end : goal.slice_bounds-result-end
 slice_bounds-result-end c =
     let e = c.span_at-offset.ensures.value in
-    omega (arith, piece_within c.args.bytes.now c.requires.0 c.args.pair c.requires.1, ap (λ s. s.offset) e, ap (λ s. s.size) e)
+    omega (arith, piece_within c.args.bytes.now c.requires.tiled c.args.pair c.requires.pair_bound, ap (λ s. s.offset) e, ap (λ s. s.size) e)
 
 pub returns : goal.returns
 returns c =

@@ -7,7 +7,8 @@ pub copy_front-requires : goal.copy_front-requires
 copy_front-requires c = length-bound c.args.bytes.now c.requires
 
 pub invariant_of-result : goal.invariant_of-result
-invariant_of-result c = (
-  length-bound c.args.bytes.now c.requires,
-  (ap (λ bytes. is_some (fault bytes)) c.copy_front.ensures ∙ ap is_some c.requires, tt),
-)
+invariant_of-result c =
+    record {
+      fits = length-bound c.args.bytes.now c.requires;
+      sound = ap (λ bytes. is_some (fault bytes)) c.copy_front.ensures ∙ ap is_some c.requires;
+    }

@@ -24,7 +24,7 @@ returns-in_err-check_state c =
     let ss = table bytes in
     let i = c.loop-pair.pair in
     let k = c.args.counts in
-    let within : i < length ss = omega (arith, length-table bytes, c.piece_count-pair-end.ensures, ap piece_count_in c.requires.1) in
+    let within : i < length ss = omega (arith, length-table bytes, c.piece_count-pair-end.ensures, ap piece_count_in c.requires.counts_value) in
     let judged : state_fault k (get_or ss i nowhere).offset (state_at bytes (get_or ss i nowhere)) ≡ Some c.in_err-check_state.field-0.0 =
     judged_at (λ o p. state_fault k o (state_of p)) bytes ss i _ _ _ c.span_at.ensures.value c.piece_at.ensures.value c.in_err-check_state.ensures in
     let p = err_from_is_err_and c.from_residual.result c.from_residual.ensures.1 in

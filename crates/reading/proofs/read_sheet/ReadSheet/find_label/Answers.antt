@@ -30,10 +30,11 @@ module _ (bytes whole : List ℕ) (is : bytes ≡ whole) (clean : fault bytes �
 
 pub piece_at-requires : goal.piece_at-requires
 piece_at-requires c =
-    let bytes = c.bytes-bytes.result.now in (
-      tiled_from_clean bytes c.bytes-bytes.ensures.sound,
-      there bytes _ c.bytes-bytes.ensures.value c.bytes-bytes.ensures.sound c.counts-counts.result c.counts-counts.ensures.read c.loop-label.label c.loop-label-test.true,
-    )
+    let bytes = c.bytes-bytes.result.now in
+    record {
+      tiled = tiled_from_clean bytes c.bytes-bytes.ensures.sound;
+      pair_bound = there bytes _ c.bytes-bytes.ensures.value c.bytes-bytes.ensures.sound c.counts-counts.result c.counts-counts.ensures.read c.loop-label.label c.loop-label-test.true;
+    }
 
 pub returns-then-same_name : goal.returns-then-same_name
 returns-then-same_name c =

@@ -40,14 +40,20 @@ piece_at-requires c =
     let bytes = c.bytes-bytes.result.now in
     let clean = c.bytes-bytes.ensures.sound in
     let k = c.counts.ensures.read ∙ ap counts (sym c.bytes-bytes.ensures.value) in
-    (tiled_from_clean bytes clean, (pair_there bytes clean c.counts.result k c.args.kind c.args.number c.place-first.result c.place-first.ensures c.if-number-count.false).2)
+    record {
+      tiled = tiled_from_clean bytes clean;
+      pair_bound = (pair_there bytes clean c.counts.result k c.args.kind c.args.number c.place-first.result c.place-first.ensures c.if-number-count.false).2;
+    }
 
 pub span_at-requires : goal.span_at-requires
 span_at-requires c =
     let bytes = c.bytes-bytes.result.now in
     let clean = c.bytes-bytes.ensures.sound in
     let k = c.counts.ensures.read ∙ ap counts (sym c.bytes-bytes.ensures.value) in
-    (pairs_there bytes clean, (pair_there bytes clean c.counts.result k c.args.kind c.args.number c.place-first.result c.place-first.ensures c.if-number-count.false).2)
+    record {
+      paired = pairs_there bytes clean;
+      pair_bound = (pair_there bytes clean c.counts.result k c.args.kind c.args.number c.place-first.result c.place-first.ensures c.if-number-count.false).2;
+    }
 
 pub returns-then-number-count : goal.returns-then-number-count
 returns-then-number-count c =
