@@ -58,7 +58,7 @@ fn enter_successor(
 ) -> bool
     requires small_acts { SmallActs acts.now }
     requires small_edges { SmallEdges silent.now }
-    requires ready_2 { Ready sets.old queue.old }
+    requires ready_first { Ready sets.old queue.old }
     ensures value { outcome result (found_in sets.new) ≡ label_entered silent.now acts.now (found_in sets.old) label }
     ensures ready { Ready sets.new queue.new }
     ensures queued { (k : ℕ) → Waiting k sets.old queue.old → Waiting k sets.new queue.new }
@@ -79,7 +79,7 @@ fn follow(
 ) -> bool
     requires small_acts { SmallActs acts.now }
     requires small_edges { SmallEdges silent.now }
-    requires ready_2 { Ready sets.old queue.old }
+    requires ready_first { Ready sets.old queue.old }
     ensures value { outcome result (found_in sets.new) ≡ followed silent.now acts.now 0 labels (found_in sets.old) }
     ensures ready { Ready sets.new queue.new }
     ensures queued { (k : ℕ) → Waiting k sets.old queue.old → Waiting k sets.new queue.new }
@@ -118,7 +118,7 @@ fn visit(
     requires small_acts { SmallActs view.acts.now }
     requires small_edges { SmallEdges view.silent.now }
     requires acts_in_bounds { length view.acts.now ≤ length slots.old }
-    requires ready_2 { Ready sets.old queue.old }
+    requires ready_first { Ready sets.old queue.old }
     ensures value { found_by result (found_in sets.new) ≡ visited role (seen view.entry) labels set mask (found_in sets.old) }
     ensures ready { Ready sets.new queue.new }
     ensures queued { (k : ℕ) → Waiting k sets.old queue.old → Waiting k sets.new queue.new }

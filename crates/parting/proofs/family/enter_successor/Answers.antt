@@ -9,7 +9,7 @@ pub returns-then-is_none : goal.returns-then-is_none
 unfolding label_entered
 returns-then-is_none c =
     let none : is_some (first_with c.args.label c.args.acts.now) ≡ false = ap is_some (sym c.first_of.ensures) ∙ c.if-is_none.ensures in
-    record { value = sym (cond-false _ _ _ none); ready = c.requires.2; queued = λ k w. w }
+    record { value = sym (cond-false _ _ _ none); ready = c.requires.ready_first; queued = λ k w. w }
 
 pub returns : goal.returns
 unfolding label_entered

@@ -12,7 +12,7 @@ enter-requires c =
     record {
       full = s.1;
       few = omega (arith, s.0);
-      slots = ap length c.new-queue.ensures.slots ∙ c.requires.3;
+      slots = ap length c.new-queue.ensures.slots ∙ c.requires.waiting_len;
       room = omega (arith, s.0, ap length c.new-queue.ensures.held);
     }
 
@@ -27,7 +27,7 @@ visit-requires c =
     let l = c.loop-mask in
     let e = c.in-Some.ensures in
     let t = taken l.sets l.set c.in-Some.mask l.queue c.pop.new.self l.invariant.ready l.invariant.waiting e.held e.slots in
-    (c.requires.0, c.requires.1, omega (arith, l.auto.slots, c.requires.2), t.ready)
+    record { small_acts = c.requires.small_acts; small_edges = c.requires.small_edges; acts_in_bounds = omega (arith, l.auto.slots, c.requires.acts_in_bounds); ready_first = t.ready }
 
 pub returns-in_err-visit : goal.returns-in_err-visit
 returns-in_err-visit c =

@@ -5,7 +5,7 @@ use Rattle.parting.proofs.Following.{follows_some, follows_none, follows_all}
 use Rattle.parting.proofs.family.follow.Goals as goal
 
 pub loop-label-init : goal.loop-label-init
-loop-label-init c = (ap (λ n. followed c.args.silent.now c.args.acts.now 0 n (found_in c.args.sets.now)) (omega arith), c.requires.2, λ k w. w)
+loop-label-init c = (ap (λ n. followed c.args.silent.now c.args.acts.now 0 n (found_in c.args.sets.now)) (omega arith), c.requires.ready_first, λ k w. w)
 
 pub returns-then-not-enter_successor : goal.returns-then-not-enter_successor
 returns-then-not-enter_successor c =

@@ -10,14 +10,14 @@ use Rattle.parting.proofs.family.visit.Goals as goal
 
 pub first_failing-requires : goal.first_failing-requires
 first_failing-requires c =
-    subst SmallActs (sym c.acts_in-count.ensures.value) (all_kept (λ (a : Act). (a.state < 64) × (a.next < 64) × (a.label < 32)) (λ a. has c.args.mask a.state) c.args.view.acts.now c.requires.0)
+    subst SmallActs (sym c.acts_in-count.ensures.value) (all_kept (λ (a : Act). (a.state < 64) × (a.next < 64) × (a.label < 32)) (λ a. has c.args.mask a.state) c.args.view.acts.now c.requires.small_acts)
 
 pub follow-requires : goal.follow-requires
-follow-requires c = (
-  subst SmallActs (sym c.acts_in-count.ensures.value) (all_kept (λ (a : Act). (a.state < 64) × (a.next < 64) × (a.label < 32)) (λ a. has c.args.mask a.state) c.args.view.acts.now c.requires.0),
-  c.requires.1,
-  c.requires.3,
-)
+follow-requires c = record {
+  small_acts = subst SmallActs (sym c.acts_in-count.ensures.value) (all_kept (λ (a : Act). (a.state < 64) × (a.next < 64) × (a.label < 32)) (λ a. has c.args.mask a.state) c.args.view.acts.now c.requires.small_acts);
+  small_edges = c.requires.small_edges;
+  ready_first = c.requires.ready_first;
+}
 
 pub returns-in-Some : goal.returns-in-Some
 returns-in-Some c =
@@ -25,7 +25,7 @@ returns-in-Some c =
     record {
       value = ap stopped c.fault_at.ensures
           ∙ sym (visited_point a.role (seen a.view) a.labels a.set a.mask (found_in a.sets.now) _ c.acts_in-count.ensures.value c.in-Some.point (sym c.first_failing.ensures ∙ c.in-Some.is));
-      ready = c.requires.3;
+      ready = c.requires.ready_first;
       queued = λ k w. w;
     }
 

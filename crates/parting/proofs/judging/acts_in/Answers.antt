@@ -9,14 +9,14 @@ use Rattle.parting.proofs.judging.acts_in.Goals as goal
 use Rattle.parting.proofs.judging.acts_in.Goals.{then-has, else-has}
 
 pub has-requires : goal.has-requires
-has-requires c = (All-get_or (λ (a : Act). (a.state < 64) × (a.next < 64) × (a.label < 32)) c.args.acts.now c.loop-i.i no_act (omega arith) c.requires.1).0
+has-requires c = (All-get_or (λ (a : Act). (a.state < 64) × (a.next < 64) × (a.label < 32)) c.args.acts.now c.loop-i.i no_act (omega arith) c.requires.small_acts).0
 
 pub loop-i-init : goal.loop-i-init
 loop-i-init c = record { found = refl; behind = omega arith }
 
 pub offset_bounds-slots-count : goal.offset_bounds-slots-count
 offset_bounds-slots-count c =
-    let within : c.loop-i.count < length c.loop-i.slots = omega (arith, c.loop-i.invariant.behind, c.loop-i.auto.slots, c.requires.0) in
+    let within : c.loop-i.count < length c.loop-i.slots = omega (arith, c.loop-i.invariant.behind, c.loop-i.auto.slots, c.requires.acts_in_bounds) in
     search rules
 
 pub loop-i-preserved : goal.loop-i-preserved
@@ -25,7 +25,7 @@ loop-i-preserved c =
     let i = c.loop-i.i in
     let slots = c.loop-i.slots in
     let test = λ (a : Act). has c.args.mask a.state in
-    let within : c.loop-i.count < length slots = omega (arith, c.loop-i.invariant.behind, c.loop-i.auto.slots, c.requires.0) in
+    let within : c.loop-i.count < length slots = omega (arith, c.loop-i.invariant.behind, c.loop-i.auto.slots, c.requires.acts_in_bounds) in
     elim c.if-has.branch [
       | then-has w ↦ collecting_at (kept test) xs _ _ (i + 1) _ _ w.slots-is w.count-is
           (collecting_some (kept test) xs slots c.loop-i.count i no_act (get_or xs i no_act) (omega arith) within (cond-true _ _ _ (sym c.has.ensures ∙ w.if-has.true)) c.loop-i.invariant)

@@ -15,10 +15,10 @@ pub loop-role-init : goal.loop-role-init
 loop-role-init c = (c.no_parts-parts.ensures, faults_start (sheet_of c.args.sheet), λ m h. absurd (omega arith))
 
 pub role_part-requires : goal.role_part-requires
-role_part-requires c = (
-  simp length-take (omega (arith, c.decode-count.ensures.bound)),
-  subst SmallPlaces (sym c.decode-count.ensures.value) (small_places_lem (sheet_of c.args.sheet) (sheet_valid c.args.sheet)),
-)
+role_part-requires c = record {
+  transitions_len_bound = simp length-take (omega (arith, c.decode-count.ensures.bound));
+  small_places = subst SmallPlaces (sym c.decode-count.ensures.value) (small_places_lem (sheet_of c.args.sheet) (sheet_valid c.args.sheet));
+}
 
 pub bounds-parts-role : goal.bounds-parts-role
 bounds-parts-role c =

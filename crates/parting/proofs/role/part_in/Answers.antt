@@ -6,7 +6,7 @@ use Rattle.parting.proofs.role.part_in.Goals as goal
 pub table-requires : goal.table-requires
 table-requires c =
     let long : length c.args.view.acts.now ≤ length c.explore.new.slots = search rules in
-    (c.requires.0, c.requires.1, long, c.in_ok-sets.ensures.few)
+    record { small_acts = c.requires.small_acts; small_edges = c.requires.small_edges; acts_in_bounds = long; count_bound = c.in_ok-sets.ensures.few }
 
 pub returns-in_err-sets : goal.returns-in_err-sets
 returns-in_err-sets c =

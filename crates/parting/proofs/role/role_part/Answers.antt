@@ -7,17 +7,17 @@ use Rattle.parting.proofs.role.role_part.Goals as goal
 
 pub acting_states-requires : goal.acting_states-requires
 acting_states-requires c =
-    subst SmallActs (sym c.collect_acts-act_count.ensures.value) (small_acts_lem c.args.role (map place_of c.args.transitions.now) c.requires.1)
+    subst SmallActs (sym c.collect_acts-act_count.ensures.value) (small_acts_lem c.args.role (map place_of c.args.transitions.now) c.requires.small_places)
 
 pub closure-requires : goal.closure-requires
-closure-requires c = subst SmallEdges (sym c.collect_back.ensures) (small_back (map place_of c.args.transitions.now) c.requires.1)
+closure-requires c = subst SmallEdges (sym c.collect_back.ensures) (small_back (map place_of c.args.transitions.now) c.requires.small_places)
 
 pub part_in-requires : goal.part_in-requires
-part_in-requires c = (
-  subst SmallActs (sym c.collect_acts-act_count.ensures.value) (small_acts_lem c.args.role (map place_of c.args.transitions.now) c.requires.1),
-  subst SmallEdges (sym c.collect_silent-silent_count.ensures.value) (small_silent c.args.role (map place_of c.args.transitions.now) c.requires.1),
-  simp length-take (omega (arith, c.collect_acts-act_count.ensures.bound, c.requires.0)),
-)
+part_in-requires c = record {
+  small_acts = subst SmallActs (sym c.collect_acts-act_count.ensures.value) (small_acts_lem c.args.role (map place_of c.args.transitions.now) c.requires.small_places);
+  small_edges = subst SmallEdges (sym c.collect_silent-silent_count.ensures.value) (small_silent c.args.role (map place_of c.args.transitions.now) c.requires.small_places);
+  acts_len_bound = simp length-take (omega (arith, c.collect_acts-act_count.ensures.bound, c.requires.transitions_len_bound));
+}
 
 pub returns : goal.returns
 returns c =

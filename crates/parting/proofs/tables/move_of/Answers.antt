@@ -4,7 +4,7 @@ use Rattle.parting.specs.declared.act.Act.{Act}
 use Rattle.parting.specs.declared.local.Move.{Move}
 use Rattle.parting.specs.Family.{position, ends}
 use Rattle.parting.specs.Tables.{moved, move_under}
-use Rattle.parting.proofs.tables.move_under.Goals as goal
+use Rattle.parting.proofs.tables.move_of.Goals as goal
 
 -- a position is at most the number of sets
 position_few : (mask : ℕ) (found : List ℕ) → position mask found ≤ length found
@@ -22,7 +22,7 @@ without : (o : Option Act) (k : ℕ) → o ≡ None → ◌≡◌ {A = Option Mo
 without o k e = rw e
 
 pub overflow_cast-next : goal.overflow_cast-next
-overflow_cast-next c = omega (arith, c.position-next.ensures, position_few c.successor.result c.args.found.now, c.requires.2)
+overflow_cast-next c = omega (arith, c.position-next.ensures, position_few c.successor.result c.args.found.now, c.requires.found_len_bound)
 
 pub returns-in-Some : goal.returns-in-Some
 unfolding move_under

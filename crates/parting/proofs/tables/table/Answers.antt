@@ -24,8 +24,14 @@ loop-i-init c = (c.no_part-part.ensures, refl, λ k h. absurd (omega arith))
 pub local_set-requires : goal.local_set-requires
 local_set-requires c =
     let s = c.args.sets in
-    let n : length (found_in s) ≡ s.count = length-take-le s.count s.masks (omega (arith, c.requires.3)) in
-    (c.requires.0, c.requires.1, omega (arith, c.loop-i.auto.slots, c.requires.2), omega (arith, n, c.requires.3.0))
+    let n : length (found_in s) ≡ s.count = length-take-le s.count s.masks (omega (arith, c.requires.count_bound)) in
+    
+    record {
+      small_acts = c.requires.small_acts;
+      small_edges = c.requires.small_edges;
+      acts_in_bounds = omega (arith, c.loop-i.auto.slots, c.requires.acts_in_bounds);
+      found_len_bound = omega (arith, n, c.requires.count_bound.0);
+    }
 
 pub loop-i-preserved : goal.loop-i-preserved
 loop-i-preserved c =
@@ -35,12 +41,12 @@ loop-i-preserved c =
     let is : get_or s.masks i 0 ≡ get_or (found_in s) i 0 = sym (get_or-take s.count s.masks i 0 (omega arith)) in (
       length-set l.part.sets i c.local_set.result ∙ l.invariant.0,
       l.invariant.1,
-      one_more (seen c.args.view) (found_in s) l.part.sets i c.local_set.result (omega (arith, l.invariant.0, c.requires.3.0)) (subst (λ m. Entry (seen c.args.view) (found_in s) m c.local_set.result) is c.local_set.ensures) l.invariant.2,
+      one_more (seen c.args.view) (found_in s) l.part.sets i c.local_set.result (omega (arith, l.invariant.0, c.requires.count_bound.0)) (subst (λ m. Entry (seen c.args.view) (found_in s) m c.local_set.result) is c.local_set.ensures) l.invariant.2,
     )
 
 pub returns : goal.returns
 returns c =
     let l = c.loop-i in
     let s = c.args.sets in
-    let n : length (found_in s) ≡ s.count = length-take-le s.count s.masks (omega (arith, c.requires.3)) in
+    let n : length (found_in s) ≡ s.count = length-take-le s.count s.masks (omega (arith, c.requires.count_bound)) in
     record { count = l.invariant.1 ∙ sym n; each = λ i h d. l.invariant.2 i (omega (arith, n)) d }
