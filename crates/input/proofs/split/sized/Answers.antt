@@ -9,7 +9,7 @@ returns-then-size-rest c =
     let enough : 2 ≤ length bytes = omega (arith, ltb-false) in
     let size : c.from_be_bytes-size.result ≡ get_or bytes 0 0 * 256 + get_or bytes 1 0 = c.from_be_bytes-size.ensures in
     let fits : c.from_be_bytes-size.result < 2 ^ 16 = omega (arith, size, c.type_inv.bytes 0, c.type_inv.bytes 1) in
-    let front = c.split_at.ensures.front-len in
+    let front = c.split_at.ensures.front_len in
     (omega (arith, front, fits), sized_is bytes _ _ _ enough (λ i. omega (arith, c.type_inv.bytes i)) size front (sym c.split_at.ensures.by_index.0 ∙ take_rest bytes 2))
 
 pub returns-else-size-rest : goal.returns-else-size-rest
