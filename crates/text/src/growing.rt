@@ -33,7 +33,7 @@ impl Text {
 
     /// Puts what a value shows at the end. `write!` and `writeln!` call it.
     pub fn write_fmt<D: Display + Drop>(&mut self, value: D) -> Result<(), AllocError>
-        ensures { IfSome (output value) (Adds self.old self.new result) }
+        ensures { IfSome (D.output value) (Adds self.old self.new result) }
     {
         let shown = String::format(self.heap, value)?;
         self.put(shown.as_bytes())
