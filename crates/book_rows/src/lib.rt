@@ -1,4 +1,5 @@
 //! Rows of time books: their bytes, and the set of clock values of one row.
+#![tactic(auto)]
 
 pub mod kind;
 pub mod number;

@@ -1,12 +1,11 @@
 -- The worked cases.
-use Rattle.std.proofs.Common.{◌≡◌, ℕ, ◌+◌, ◌-◌, ◌^◌, ◌<◌, ◌≤◌, max, true, false, Some, None, refl, arith, lit<, lit≤}
+use Rattle.std.proofs.Common.{◌≡◌, ℕ, ◌+◌, ◌-◌, ◌^◌, ◌<◌, ◌≤◌, max, Some, None, refl, arith, lit<, lit≤}
 use Rattle.book_rows.specs.Bytes.{number_of}
-use Rattle.books.specs.Cases.{Worked, bytes_of_slot, bytes_of_window}
+use Rattle.books.specs.Cases.{Worked}
 use Rattle.books.specs.Margins.{Near}
-use Rattle.book_rows.specs.Nexts.{Next, LeastFrom}
-use Rattle.book_rows.specs.Sets.{Holds, InRow}
-use Rattle.book_rows.specs.Slots.{SlotAdmits, InSlot}
-use Rattle.book_rows.specs.Windows.{WindowAdmits, InWindow}
+use Rattle.book_rows.specs.Nexts.{Next}
+use Rattle.book_rows.specs.Sets.{InRow}
+use Rattle.book_rows.specs.Slots.{InSlot}
 use Rattle.books.proofs.Nexts.{next_in_row}
 use Rattle.book_rows.proofs.Times.{before_slot, after_slot}
 

@@ -1,5 +1,5 @@
 -- Meaning: what margins are to the book below and to one another.
-use Rattle.std.specs.Prelude.{ℕ, ◌+◌, ◌-◌, ◌^◌, ◌<◌, ◌≤◌, min}
+use Rattle.std.specs.Prelude.{ℕ, ◌+◌, ◌-◌, ◌^◌, ◌≤◌}
 use Rattle.books.specs.Margins.{Near}
 use Rattle.book_rows.specs.Sets.{Same}
 

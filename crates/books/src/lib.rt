@@ -1,4 +1,5 @@
 //! Time books: for each row a set of clock values, and two questions about it.
+#![tactic(auto)]
 
 pub mod cases;
 pub mod fault;

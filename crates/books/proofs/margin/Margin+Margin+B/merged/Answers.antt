@@ -1,4 +1,4 @@
-use Rattle.std.proofs.Common.{◌≡◌, ℕ, ◌+◌, ◌-◌, ◌^◌, ◌<◌, ◌≤◌, min, sym, ap, ◌∙◌, subst, rules}
+use Rattle.std.proofs.Common.{sym, subst, rules}
 use Rattle.books.specs.declared.margin.Margin.{Margin}
 use Rattle.books.specs.Margins.{Near}
 use Rattle.book_rows.specs.Sets.{Same}
