@@ -61,13 +61,13 @@ pub shown_by : {T E : Type 0} (r : Result T E) (x z t : List ℕ) (P : List ℕ 
 shown_by (Ok u) x z t P p e = (t, e, p)
 shown_by (Err u) x z t P p e = tt
 
-module _ (refusal : List ℕ → Option BookFault) (rowsIn : List ℕ → ℕ) (allows : List ℕ → Book) (sheet book : List ℕ) (tick : ℕ) (events : List Event) (text : List ℕ) where
-  pub parts_stopped : (fault : ConsoleFault) → Some fault ≡ watch_fault refusal rowsIn sheet book → text ≡ line_of_stop (stop_for fault) → PartsTold refusal rowsIn allows sheet book tick events text
+module _ (refusal : List ℕ → Option BookFault) (rows_in : List ℕ → ℕ) (allows : List ℕ → Book) (sheet book : List ℕ) (tick : ℕ) (events : List Event) (text : List ℕ) where
+  pub parts_stopped : (fault : ConsoleFault) → Some fault ≡ watch_fault refusal rows_in sheet book → text ≡ line_of_stop (stop_for fault) → PartsTold refusal rows_in allows sheet book tick events text
   parts_stopped fault e is = subst (λ o. MatchOption o (Watched sheet (allows book) tick events text) (λ f. text ≡ line_of_stop (stop_for f))) e is
 
-  pub parts_watched : (counts : Counts) (log shown : List Entry) (closing : Closing) → None ≡ watch_fault refusal rowsIn sheet book → Encodes sheet (model sheet) → CanBeParted (model sheet)
+  pub parts_watched : (counts : Counts) (log shown : List Entry) (closing : Closing) → None ≡ watch_fault refusal rows_in sheet book → Encodes sheet (model sheet) → CanBeParted (model sheet)
       → counts ≡ counts_of (model sheet) → Prescribed (model sheet) (allows book) tick 8 [] log → Closes (model sheet) (passed [] log) closing → calls log ≡ map Judge events → shown ≡ log
-      → text ≡ transcript counts shown closing → PartsTold refusal rowsIn allows sheet book tick events text
+      → text ≡ transcript counts shown closing → PartsTold refusal rows_in allows sheet book tick events text
   parts_watched counts log shown closing e encodes parted counted prescribed closes asked same is =
       subst (λ o. MatchOption o (Watched sheet (allows book) tick events text) (λ f. text ≡ line_of_stop (stop_for f))) e (record {
         sheet = model sheet;
@@ -82,20 +82,20 @@ module _ (refusal : List ℕ → Option BookFault) (rowsIn : List ℕ → ℕ) (
       })
 
 -- the parts of an input are told, and it has no others
-pub told_laid : (refusal : List ℕ → Option BookFault) (rowsIn : List ℕ → ℕ) (allows : List ℕ → Book) (input text : List ℕ) (s : Script) → Splits input s
-    → PartsTold refusal rowsIn allows s.sheet.now s.book.now s.tick (events_in s.events.now) text → Told refusal rowsIn allows input text
-told_laid refusal rowsIn allows input text s splits told = record {
+pub told_laid : (refusal : List ℕ → Option BookFault) (rows_in : List ℕ → ℕ) (allows : List ℕ → Book) (input text : List ℕ) (s : Script) → Splits input s
+    → PartsTold refusal rows_in allows s.sheet.now s.book.now s.tick (events_in s.events.now) text → Told refusal rows_in allows input text
+told_laid refusal rows_in allows input text s splits told = record {
   broken = λ none. absurd (none _ _ _ _ splits.laid);
   laid = λ sheet book tick events laid.
       let p = splits.only sheet book tick events laid in
-      let a : PartsTold refusal rowsIn allows sheet s.book.now s.tick (events_in s.events.now) text = subst (λ x. PartsTold refusal rowsIn allows x s.book.now s.tick (events_in s.events.now) text) (sym p.0) told in
-      let b : PartsTold refusal rowsIn allows sheet book s.tick (events_in s.events.now) text = subst (λ x. PartsTold refusal rowsIn allows sheet x s.tick (events_in s.events.now) text) (sym p.1) a in
-      let c : PartsTold refusal rowsIn allows sheet book tick (events_in s.events.now) text = subst (λ x. PartsTold refusal rowsIn allows sheet book x (events_in s.events.now) text) (sym p.2) b in
-      subst (λ x. PartsTold refusal rowsIn allows sheet book tick x text) (sym p.3) c;
+      let a : PartsTold refusal rows_in allows sheet s.book.now s.tick (events_in s.events.now) text = subst (λ x. PartsTold refusal rows_in allows x s.book.now s.tick (events_in s.events.now) text) (sym p.0) told in
+      let b : PartsTold refusal rows_in allows sheet book s.tick (events_in s.events.now) text = subst (λ x. PartsTold refusal rows_in allows sheet x s.tick (events_in s.events.now) text) (sym p.1) a in
+      let c : PartsTold refusal rows_in allows sheet book tick (events_in s.events.now) text = subst (λ x. PartsTold refusal rows_in allows sheet book x (events_in s.events.now) text) (sym p.2) b in
+      subst (λ x. PartsTold refusal rows_in allows sheet book tick x text) (sym p.3) c;
 }
 
-pub told_broken : (refusal : List ℕ → Option BookFault) (rowsIn : List ℕ → ℕ) (allows : List ℕ → Book) (input text : List ℕ) → Broken input → text ≡ line_of_stop (stop_for Cut) → Told refusal rowsIn allows input text
-told_broken refusal rowsIn allows input text none is = record {
+pub told_broken : (refusal : List ℕ → Option BookFault) (rows_in : List ℕ → ℕ) (allows : List ℕ → Book) (input text : List ℕ) → Broken input → text ≡ line_of_stop (stop_for Cut) → Told refusal rows_in allows input text
+told_broken refusal rows_in allows input text none is = record {
   broken = λ _. is;
   laid = λ sheet book tick events laid. absurd (none sheet book tick events laid);
 }

@@ -33,4 +33,4 @@ accept_fault refusal sheet book = before (option_map Reading (fault sheet)) (bef
 
 -- and then opening a session of depth 8
 abbrev pub watch_fault : (List ℕ → Option BookFault) → (List ℕ → ℕ) → List ℕ → List ℕ → Option ConsoleFault
-watch_fault refusal rowsIn sheet book = before (accept_fault refusal sheet book) (option_map Session (open_fault (model sheet).rows (rowsIn book) 8))
+watch_fault refusal rows_in sheet book = before (accept_fault refusal sheet book) (option_map Session (open_fault (model sheet).rows (rows_in book) 8))

@@ -34,10 +34,10 @@ pub record Watched (bytes : List ℕ) (book : Book) (tick : ℕ) (events : List 
 -- The parts of an input, with a kind of book: which bytes it refuses, how many rows bytes have, and what each row allows.
 -- The first fault is told as its stop; where there is none, the events are watched.
 abbrev pub PartsTold : (List ℕ → Option BookFault) → (List ℕ → ℕ) → (List ℕ → Book) → List ℕ → List ℕ → ℕ → List Event → List ℕ → Type 0
-PartsTold refusal rowsIn allows sheet book tick events text =
-    MatchOption (watch_fault refusal rowsIn sheet book) (Watched sheet (allows book) tick events text) (λ fault. text ≡ line_of_stop (stop_for fault))
+PartsTold refusal rows_in allows sheet book tick events text =
+    MatchOption (watch_fault refusal rows_in sheet book) (Watched sheet (allows book) tick events text) (λ fault. text ≡ line_of_stop (stop_for fault))
 
 -- A broken input is told as stop 61, and every other as the parts that it is laid out of.
-pub record Told (refusal : List ℕ → Option BookFault) (rowsIn : List ℕ → ℕ) (allows : List ℕ → Book) (input text : List ℕ) : Type 0 where
+pub record Told (refusal : List ℕ → Option BookFault) (rows_in : List ℕ → ℕ) (allows : List ℕ → Book) (input text : List ℕ) : Type 0 where
   pub broken : Broken input → text ≡ line_of_stop (stop_for Cut)
-  pub laid : (sheet book : List ℕ) (tick : ℕ) (events : List Event) → Laid input sheet book tick events → PartsTold refusal rowsIn allows sheet book tick events text
+  pub laid : (sheet book : List ℕ) (tick : ℕ) (events : List Event) → Laid input sheet book tick events → PartsTold refusal rows_in allows sheet book tick events text

@@ -19,7 +19,7 @@ pub trait ReadBook: TimeBook + Sized {
     ghost refusal: { List ℕ → Option AnyFault };
 
     /// How many rows the book in these bytes has.
-    ghost rowsIn: { List ℕ → ℕ };
+    ghost rows_in: { List ℕ → ℕ };
 
     /// The bytes of a book, a row and a value: that the value is in the row's set.
     ghost allows: { List ℕ → ℕ → ℕ → Type 0 };
@@ -27,13 +27,13 @@ pub trait ReadBook: TimeBook + Sized {
     /// The book in these bytes, or what is wrong with them.
     fn read_book(bytes: &[u8]) -> Result<Self, BookFault>
         ensures judged { result_err result ≡ refusal bytes.now }
-        ensures book { IfOk result (λ b. (Self.TimeBook.count b ≡ rowsIn bytes.now) × ((row v : ℕ) → Same (Self.TimeBook.admits b row v) (allows bytes.now row v))) };
+        ensures book { IfOk result (λ b. (Self.TimeBook.count b ≡ rows_in bytes.now) × ((row v : ℕ) → Same (Self.TimeBook.admits b row v) (allows bytes.now row v))) };
 }
 
 impl ReadBook for Windows {
     ghost refusal = { fault_of 8 window_rule };
 
-    ghost rowsIn = { λ bytes. length bytes / 8 };
+    ghost rows_in = { λ bytes. length bytes / 8 };
 
     ghost allows = { WindowAdmits };
 
@@ -45,7 +45,7 @@ impl ReadBook for Windows {
 impl ReadBook for Slots {
     ghost refusal = { fault_of 12 slot_rule };
 
-    ghost rowsIn = { λ bytes. length bytes / 12 };
+    ghost rows_in = { λ bytes. length bytes / 12 };
 
     ghost allows = { SlotAdmits };
 

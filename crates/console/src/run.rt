@@ -21,7 +21,7 @@ use text::stop_line::put_stop;
 /// its events is answered as runs of the sheet prescribe; or, where no session is opened, the stop of the first fault alone.
 /// An error says that memory failed.
 pub fn run<B: ReadBook + Drop>(heap: Global, input: &[u8]) -> Result<Vec<u8>, AllocError>
-    ensures { IfOk result (λ text. Told B.ReadBook.refusal B.ReadBook.rowsIn B.ReadBook.allows input.now text.items) }
+    ensures { IfOk result (λ text. Told B.ReadBook.refusal B.ReadBook.rows_in B.ReadBook.allows input.now text.items) }
 {
     let mut text = Text::new(heap);
     match split(input) {
@@ -37,7 +37,7 @@ fn put_script<B: ReadBook + Drop>(
     text: &mut Text,
     script: Script<'_>,
 ) -> Result<(), AllocError>
-    ensures { OnOk result ((shown : List ℕ) × (said text.new ≡ said text.old ++ shown) × PartsTold B.ReadBook.refusal B.ReadBook.rowsIn B.ReadBook.allows script.entry.sheet.now script.entry.book.now script.entry.tick (events_in script.entry.events.now) shown) }
+    ensures { OnOk result ((shown : List ℕ) × (said text.new ≡ said text.old ++ shown) × PartsTold B.ReadBook.refusal B.ReadBook.rows_in B.ReadBook.allows script.entry.sheet.now script.entry.book.now script.entry.tick (events_in script.entry.events.now) shown) }
 {
     let mut log = log_of(heap, script.events)?;
     match watch_script::<B>(script, log.as_mut_slice()) {

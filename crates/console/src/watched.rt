@@ -29,7 +29,7 @@ const DEPTH: u8 = 8;
 /// The accepted sheet and the book that stand in bytes, or the first fault of the two.
 fn accept<B: ReadBook + Drop>(sheet: &[u8], book: &[u8]) -> Result<(Accepted, B), ConsoleFault>
     ensures judged { result_err result ≡ accept_fault B.ReadBook.refusal sheet.now book.now }
-    ensures whole { IfOk result (λ p. Encodes sheet.now (model sheet.now) × IsOf (model sheet.now) p.0 × (B.TimeBook.count p.1 ≡ B.ReadBook.rowsIn book.now) × ((row v : ℕ) → Same (B.TimeBook.admits p.1 row v) (B.ReadBook.allows book.now row v))) }
+    ensures whole { IfOk result (λ p. Encodes sheet.now (model sheet.now) × IsOf (model sheet.now) p.0 × (B.TimeBook.count p.1 ≡ B.ReadBook.rows_in book.now) × ((row v : ℕ) → Same (B.TimeBook.admits p.1 row v) (B.ReadBook.allows book.now row v))) }
 {
     let sheet = read(sheet)?;
     let book = B::read_book(book)?;
@@ -51,7 +51,7 @@ pub(crate) fn watch_script<B: ReadBook + Drop>(
     script: Script<'_>,
     log: &mut [Entry],
 ) -> Result<Seen, ConsoleFault>
-    ensures judged { result_err result ≡ watch_fault B.ReadBook.refusal B.ReadBook.rowsIn script.entry.sheet.now script.entry.book.now }
+    ensures judged { result_err result ≡ watch_fault B.ReadBook.refusal B.ReadBook.rows_in script.entry.sheet.now script.entry.book.now }
     ensures asked { calls log.new ≡ calls log.old }
     ensures whole { IfOk result (λ seen. Encodes script.entry.sheet.now (model script.entry.sheet.now) × CanBeParted (model script.entry.sheet.now) × (seen.counts ≡ counts_of (model script.entry.sheet.now)) × Prescribed (model script.entry.sheet.now) (B.ReadBook.allows script.entry.book.now) script.entry.tick 8 [] log.new × Closes (model script.entry.sheet.now) (passed [] log.new) seen.closing) }
 {

@@ -23,8 +23,8 @@ returns-in-Ok g c =
     let same : shown ≡ log = c.as_slice.ensures.value ∙ take_at log _ _ (c.watch_script.auto.log ∙ c.as_mut_slice.ensures.len) in
     let asked = watched.asked ∙ ap calls c.as_mut_slice.ensures.value ∙ c.in_ok-log.ensures in
     let text = transcript seen.counts shown seen.closing in
-    shown_by c.put_transcript.result (said c.args.text.now) _ text (PartsTold g.B.ReadBook.refusal g.B.ReadBook.rowsIn g.B.ReadBook.allows sheet book tick events)
-    (parts_watched g.B.ReadBook.refusal g.B.ReadBook.rowsIn g.B.ReadBook.allows sheet book tick events text seen.counts log shown seen.closing
+    shown_by c.put_transcript.result (said c.args.text.now) _ text (PartsTold g.B.ReadBook.refusal g.B.ReadBook.rows_in g.B.ReadBook.allows sheet book tick events)
+    (parts_watched g.B.ReadBook.refusal g.B.ReadBook.rows_in g.B.ReadBook.allows sheet book tick events text seen.counts log shown seen.closing
     watched.judged watched.whole.0 watched.whole.1 watched.whole.2 watched.whole.3 watched.whole.4 asked same refl)
     c.put_transcript.ensures
 
@@ -35,6 +35,6 @@ returns g c =
     let tick = c.args.script.tick in
     let events = events_in c.args.script.events.now in
     let text = line_of_stop c.from.result in
-    shown_by c.put_stop.result (said c.args.text.now) _ text (PartsTold g.B.ReadBook.refusal g.B.ReadBook.rowsIn g.B.ReadBook.allows sheet book tick events)
-    (parts_stopped g.B.ReadBook.refusal g.B.ReadBook.rowsIn g.B.ReadBook.allows sheet book tick events text c.in-Err.fault c.in-Err.ensures.judged (ap line_of_stop c.from.ensures))
+    shown_by c.put_stop.result (said c.args.text.now) _ text (PartsTold g.B.ReadBook.refusal g.B.ReadBook.rows_in g.B.ReadBook.allows sheet book tick events)
+    (parts_stopped g.B.ReadBook.refusal g.B.ReadBook.rows_in g.B.ReadBook.allows sheet book tick events text c.in-Err.fault c.in-Err.ensures.judged (ap line_of_stop c.from.ensures))
     c.put_stop.ensures
