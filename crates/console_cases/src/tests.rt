@@ -5,7 +5,8 @@ use books::windows::Windows;
 use console::read_book::ReadBook;
 use console::run::run;
 use std::alloc::{AllocError, Global};
-use std::test::*;
+use std::process::Abort;
+use std::test::Fail;
 
 /// MAIN asks an OVEN for heat.
 const OVEN: &[u8] =
@@ -55,15 +56,19 @@ fn input_of(heap: Global, sheet: &[u8], book: &[u8], events: &[u8]) -> Result<Ve
     Ok(input)
 }
 
-fn check_told<B: ReadBook + Drop>(rt: &HostRuntime, input: &[u8], told: &str) -> Result<(), Fail> {
+fn check_told<B: ReadBook + Drop>(
+    rt: &(impl Abort + AllocGlobal),
+    input: &[u8],
+    told: &str,
+) -> Result<(), Fail> {
     let text = run::<B>(rt.alloc(), input)?;
-    assert!(text.as_slice() == told.as_bytes(), "{}", told);
+    assert!(rt; text.as_slice() == told.as_bytes(), "{}", told);
     Ok(())
 }
 
 /// What is printed by windows.
 fn check_windows(
-    rt: &HostRuntime,
+    rt: &(impl Abort + AllocGlobal),
     sheet: &[u8],
     book: &[u8],
     events: &[u8],
