@@ -9,7 +9,7 @@ use sheet::fault::ReadFault;
 use stops::stop::Stop;
 
 /// Why an input is not listed with all parts of a sheet.
-#[derive(Clone, Copy)]
+#[derive(Clone, Copy, PartialEq, Eq, Debug)]
 pub enum ListFault {
     /// 61: the input has more bytes than a sheet's offsets can name.
     Cut,

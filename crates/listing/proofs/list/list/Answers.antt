@@ -23,7 +23,7 @@ use Rattle.sheet_page.specs.Page.{page}
 use Rattle.part_page.specs.Parts.{part_lines, PartingTold}
 use Rattle.text.specs.Growing.{said}
 use Rattle.listing.proofs.list.list.Goals as goal
-use Rattle.listing.proofs.list.list.Goals.{in-Ok+in_ok-put_sheet, in-Err+in_ok-put_stop}
+use Rattle.listing.proofs.list.list.Goals.{in-Ok+in_ok-put_sheet-in-Ok, in-Err+in_ok-put_stop-in-Err}
 
 -- the parts are told where parting has no fault, else its stop
 by_fault : (sh : Sheet) (text : List ℕ) (o : Option PartFault) (r : Result Accepted ListFault) → fault_of r ≡ option_map Parting o → IfOk r (λ a. PartsOf sh a) → text ≡ page sh ++ parting_text sh r
@@ -60,15 +60,15 @@ returns c =
     let input = c.args.input.now in
     let text = vec_items c.into_bytes.result in
     let value : Listed input text = elim c.match-examine.branch [
-      | in-Ok+in_ok-put_sheet w ↦
+      | in-Ok+in_ok-put_sheet-in-Ok w ↦
           let s = w.in-Ok.sheet in
           let r = w.parted.result in
           listed_sheet input (bytes_of s) text r w.in-Ok.ensures.judged w.in-Ok.ensures.value w.parted.ensures.judged w.parted.ensures.value
-          (c.into_bytes.ensures ∙ ap said w.text-is ∙ w.in_ok-put_sheet.ensures
+          (c.into_bytes.ensures ∙ ap said w.text-is ∙ w.in_ok-put_sheet-in-Ok.ensures
           ∙ ap (λ t. t ++ (page (sheet_of s) ++ parting_text (sheet_of s) r)) c.new-text.ensures)
-      | in-Err+in_ok-put_stop w ↦
+      | in-Err+in_ok-put_stop-in-Err w ↦
           listed_stop input text w.in-Err.fault w.in-Err.ensures.judged
-          (c.into_bytes.ensures ∙ ap said w.text-is ∙ w.in_ok-put_stop.ensures
+          (c.into_bytes.ensures ∙ ap said w.text-is ∙ w.in_ok-put_stop-in-Err.ensures
           ∙ ap (λ t. t ++ line_of_stop w.from.result) c.new-text.ensures ∙ ap line_of_stop w.from.ensures)
     ] in
     record { value = value; told = λ sh e. listed_encoded input text sh e value }
