@@ -1,5 +1,7 @@
 //! Reads a sheet from standard input and prints what it says.
 
+#![tactic(auto)]
+
 use arguments::task::{Task, asked, unknown};
 use listing::list::{MOST_INPUT, list};
 use std::io;
