@@ -1,4 +1,5 @@
 //! Compares the books with a plain search over what their rows mean, and prints how many answers differ.
+#![tactic(auto)]
 
 mod compare;
 mod counted;

@@ -1,6 +1,6 @@
 //! What the channels do.
 
-ghost use Rattle.std.specs.Prelude.{◌≡◌, ℕ, ◌<◌, ◌≤◌, ◌&&◌, [], ◌∷◌, ◌++◌, length, drop, IfNone, if◌then◌else◌, MatchResult, ◌==◌, nat_eq};
+ghost use Rattle.std.specs.Prelude.{◌≡◌, ℕ, ◌<◌, ◌≤◌, ◌&&◌, [], ◌∷◌, ◌++◌, length, drop, IfNone, if◌then◌else◌, MatchResult, ◌==◌};
 ghost use Rattle.channels.specs.Waiting.{channel, first as oldest_of};
 
 use crate::channels::Channels;
@@ -42,7 +42,7 @@ impl Channels {
     /// Puts a message last; or gives it back, with nothing changed, where there is no such channel or 8
     /// messages wait in it.
     pub fn send(&mut self, from: u8, to: u8, message: Message) -> Result<(), Message>
-        ensures { MatchResult result (λ _. (from < 6) × (to < 6) × (length (channel self.old from to) < 8) × ((a b : ℕ) → channel self.new a b ≡ (if nat_eq a from && b == to then channel self.old a b ++ message ∷ [] else channel self.old a b))) (λ back. (back ≡ message) × (self.new ≡ self.old) × (from < 6 → to < 6 → 8 ≤ length (channel self.old from to))) }
+        ensures { MatchResult result (λ _. (from < 6) × (to < 6) × (length (channel self.old from to) < 8) × ((a b : ℕ) → channel self.new a b ≡ (if a == from && b == to then channel self.old a b ++ message ∷ [] else channel self.old a b))) (λ back. (back ≡ message) × (self.new ≡ self.old) × (from < 6 → to < 6 → 8 ≤ length (channel self.old from to))) }
     {
         let Some(i) = index(from, to) else {
             return Err(message);
@@ -57,7 +57,7 @@ impl Channels {
     /// Takes the oldest message out; none, with nothing changed, where none waits.
     pub fn take(&mut self, from: u8, to: u8) -> Option<Message>
         ensures answer { result ≡ oldest_of (channel self.old from to) }
-        ensures rest { (a b : ℕ) → channel self.new a b ≡ (if nat_eq a from && b == to then drop 1 (channel self.old a b) else channel self.old a b) }
+        ensures rest { (a b : ℕ) → channel self.new a b ≡ (if a == from && b == to then drop 1 (channel self.old a b) else channel self.old a b) }
         ensures kept { IfNone result (self.new ≡ self.old) }
     {
         let i = index(from, to)?;

@@ -1,4 +1,5 @@
 //! The channels between roles: what was sent from one to another and not yet taken.
+#![tactic(auto)]
 
 mod calls;
 pub mod channels;

@@ -1,4 +1,5 @@
 //! Channels filled and emptied.
+#![tactic(auto)]
 
 #[cfg(test)]
 mod tests {

@@ -1,5 +1,4 @@
 -- Computed: the stop of each fault of a session.
-use Rattle.std.specs.Prelude.{ℕ}
 use Rattle.stops.specs.declared.stop.Stop.{Stop}
 use Rattle.stops.specs.Stops.{stop_of}
 use Rattle.events.specs.declared.fault.SessionFault.{SessionFault}

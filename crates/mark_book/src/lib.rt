@@ -1,4 +1,5 @@
 //! Another firm's book: marks, each of which puts one value into one row.
+#![tactic(auto)]
 
 ghost use Rattle.std.specs.Prelude.{◌≡◌, ℕ, ◌<◌, ◌≤◌, min, length};
 ghost use Rattle.books.specs.Margins.{Near};

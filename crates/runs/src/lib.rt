@@ -1,5 +1,6 @@
 //! What a run of a sheet is, what a monitor is, and that the two agree. Definitions and their laws; no
 //! code runs here.
+#![tactic(auto)]
 
 pub mod events;
 pub mod examples;

@@ -1,4 +1,4 @@
-use Rattle.std.proofs.Common.{◌≡◌, ℕ, ◌+◌, ◌^◌, ◌<◌, ◌≤◌, min, length, get_or, Some, unwrap_or, sym, refl, ap, ◌∙◌, subst, arith}
+use Rattle.std.proofs.Common.{◌≡◌, ◌+◌, min, length, get_or, Some, unwrap_or, sym, refl, ap, ◌∙◌, subst, arith}
 use Rattle.books.specs.Nexts.{Next}
 use Rattle.mark_book.specs.Marked.{Marked, no_mark}
 use Rattle.mark_book.proofs.Marking.{mark_passed, mark_taken}
