@@ -1,5 +1,7 @@
 //! Tries sessions on bytes and prints, for each case, what was put and what was said.
 
+#![tactic(auto)]
+
 mod shown;
 
 use arguments::task::{Task, asked, unknown};

@@ -1,6 +1,8 @@
 //! Parting: from a sheet that has been read to one local protocol for each role, or to the fault that
 //! says which role cannot have one.
 
+#![tactic(auto)]
+
 pub mod accepted;
 mod act;
 mod closure;

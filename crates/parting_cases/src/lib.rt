@@ -1,5 +1,7 @@
 //! Small sheets, each with the stop and the places that parting answers.
 
+#![tactic(auto)]
+
 pub mod outcomes;
 
 use parting::part::part;

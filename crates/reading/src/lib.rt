@@ -1,5 +1,7 @@
 //! Reading a sheet: from bytes to a sheet that is known to be valid, or to the fault that refuses it.
 
+#![tactic(auto)]
+
 pub mod find;
 mod header;
 pub mod names;

@@ -1,5 +1,7 @@
 //! Damaged sheets, each with the stop and the place that reading answers.
 
+#![tactic(auto)]
+
 use reading::read::read;
 use stops::stop::Stop;
 

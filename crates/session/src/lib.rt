@@ -1,5 +1,7 @@
 //! A session: it watches the events of a sheet's roles, passes or stops each, and says when a role can go on.
 
+#![tactic(auto)]
+
 pub mod ask;
 pub mod close;
 pub mod closed;

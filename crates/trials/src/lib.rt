@@ -1,5 +1,7 @@
 //! Sessions that are tried on bytes: sheets, books, what is put to a session, and what it says.
 
+#![tactic(auto)]
+
 pub mod calls;
 pub mod case;
 pub mod cost;

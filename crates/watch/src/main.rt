@@ -1,5 +1,7 @@
 //! Watches the events in its input by a book of windows.
 
+#![tactic(auto)]
+
 use arguments::task::{Task, asked, unknown};
 use books::windows::Windows;
 use program::program::watch;

@@ -1,5 +1,7 @@
 //! Watches the events in its input by a book of slots.
 
+#![tactic(auto)]
+
 use arguments::task::{Task, asked, unknown};
 use books::slots::Slots;
 use program::program::watch;
