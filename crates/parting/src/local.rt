@@ -13,7 +13,7 @@ pub enum LocalKind {
 pub struct Move {
     pub row: u8,
     pub reset: bool,
-    pub next: u8,
+    pub next: usize,
 }
 
 /// A set of states that the role cannot tell apart, what it does there, and by label how it goes on.

@@ -34,10 +34,9 @@ fn kind_of(acts: &[Act]) -> LocalKind
 fn move_of(acts: &[Act], silent: &[Edge], found: &[u64], label: u8) -> Option<Move>
     requires small_acts { SmallActs acts.now }
     requires small_edges { SmallEdges silent.now }
-    requires found_len_bound { length found.now ≤ 32 }
     ensures { result ≡ move_under silent.now found.now acts.now label }
 {
-    let next = position(found, successor(acts, silent, label)) as u8;
+    let next = position(found, successor(acts, silent, label));
     match first_of(acts, label) {
         Some(act) => Some(Move {
             row: act.row,
@@ -51,7 +50,6 @@ fn move_of(acts: &[Act], silent: &[Edge], found: &[u64], label: u8) -> Option<Mo
 fn moves_of(acts: &[Act], silent: &[Edge], found: &[u64]) -> [Option<Move>; 32]
     requires small_acts { SmallActs acts.now }
     requires small_edges { SmallEdges silent.now }
-    requires found_len_bound { length found.now ≤ 32 }
     ensures { (label : ℕ) → label < 32 → slice_index_or result label None ≡ move_under silent.now found.now acts.now label }
 {
     let mut moves = [None; 32];
@@ -65,7 +63,6 @@ fn local_set(view: View<'_>, found: &[u64], mask: u64, slots: &mut [Act]) -> Loc
     requires small_acts { SmallActs view.acts.now }
     requires small_edges { SmallEdges view.silent.now }
     requires acts_in_bounds { length view.acts.now ≤ length slots.old }
-    requires found_len_bound { length found.now ≤ 32 }
     ensures { Entry (seen view.entry) found.now mask result }
 {
     let count = acts_in(view.acts, mask, slots);

@@ -2,6 +2,6 @@
 //! code runs here.
 #![tactic(auto)]
 
-pub mod events;
+pub mod event_laws;
 pub mod examples;
 pub mod monitor;

@@ -22,7 +22,7 @@ pub(crate) fn pass(inner: &mut Inner, event: Event, step: Step) -> u32
     ensures channels { Delivered step.direction inner.old.channels event inner.new.channels result }
 {
     let record = &mut inner.records[event.role as usize];
-    record.set = step.to.next as usize;
+    record.set = step.to.next;
     if step.to.reset {
         record.since = event.tick;
     }

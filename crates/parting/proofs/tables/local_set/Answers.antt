@@ -10,7 +10,6 @@ pub moves_of-requires : goal.moves_of-requires
 moves_of-requires c = record {
   small_acts = subst SmallActs (sym c.acts_in-count.ensures.value) (all_kept (λ (a : Act). (a.state < 64) × (a.next < 64) × (a.label < 32)) (λ a. has c.args.mask a.state) c.args.view.acts.now c.requires.small_acts);
   small_edges = c.requires.small_edges;
-  found_len_bound = c.requires.found_len_bound;
 }
 
 pub returns : goal.returns

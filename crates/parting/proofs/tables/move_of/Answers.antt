@@ -6,23 +6,11 @@ use Rattle.parting.specs.Family.{position, ends}
 use Rattle.parting.specs.Tables.{moved, move_under}
 use Rattle.parting.proofs.tables.move_of.Goals as goal
 
--- a position is at most the number of sets
-position_few : (mask : ℕ) (found : List ℕ) → position mask found ≤ length found
-position_few mask [] = omega arith
-position_few mask (x ∷ xs) = go (position_few mask xs) (cases_Bool (eqb x mask))
-  where
-    go : position mask xs ≤ length xs → (eqb x mask ≡ true) ⊎ (eqb x mask ≡ false) → position mask (x ∷ xs) ≤ length (x ∷ xs)
-    go h (inl e) = omega (arith, cond-true (eqb x mask) 0 (suc (position mask xs)) e)
-    go h (inr e) = omega (arith, h, cond-false (eqb x mask) 0 (suc (position mask xs)) e)
-
 with_act : (o : Option Act) (a : Act) (n k : ℕ) → o ≡ Some a → n ≡ k → ◌≡◌ {A = Option Move} (Some (record { row = a.row; reset = a.reset; next = n })) (moved o k)
 with_act o a n k e q = rw (e, q)
 
 without : (o : Option Act) (k : ℕ) → o ≡ None → ◌≡◌ {A = Option Move} None (moved o k)
 without o k e = rw e
-
-pub overflow_cast-next : goal.overflow_cast-next
-overflow_cast-next c = omega (arith, c.position-next.ensures, position_few c.successor.result c.args.found.now, c.requires.found_len_bound)
 
 pub returns-in-Some : goal.returns-in-Some
 unfolding move_under

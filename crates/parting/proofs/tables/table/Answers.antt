@@ -23,14 +23,10 @@ loop-i-init c = (c.no_part-part.ensures, refl, λ k h. absurd (omega arith))
 
 pub local_set-requires : goal.local_set-requires
 local_set-requires c =
-    let s = c.args.sets in
-    let n : length (found_in s) ≡ s.count = length-take-le s.count s.masks (omega (arith, c.requires.count_bound)) in
-    
     record {
       small_acts = c.requires.small_acts;
       small_edges = c.requires.small_edges;
       acts_in_bounds = omega (arith, c.loop-i.auto.slots, c.requires.acts_in_bounds);
-      found_len_bound = omega (arith, n, c.requires.count_bound.0);
     }
 
 pub loop-i-preserved : goal.loop-i-preserved

@@ -2,7 +2,7 @@
 use Rattle.std.proofs.Common.{refl}
 use Rattle.runs.proofs.AnyPath.{any_path}
 use Rattle.runs.proofs.Judging.{accepted_steady}
-use Rattle.runs.proofs.events.paths_stand.Goals as goal
+use Rattle.runs.proofs.event_laws.paths_stand.Goals as goal
 
 pub returns : goal.returns
 returns g c = record {

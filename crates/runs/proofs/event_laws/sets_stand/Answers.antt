@@ -2,7 +2,7 @@
 use Rattle.std.proofs.Common.{refl}
 use Rattle.runs.proofs.Shares.{sets_read}
 use Rattle.runs.proofs.Judging.{accepted_steady}
-use Rattle.runs.proofs.events.sets_stand.Goals as goal
+use Rattle.runs.proofs.event_laws.sets_stand.Goals as goal
 
 pub returns : goal.returns
 returns g c = record {
