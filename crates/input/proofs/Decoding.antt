@@ -1,6 +1,6 @@
 -- The events in bytes.
 use Rattle.std.proofs.Common.{◌≡◌, ℕ, ◌+◌, ◌*◌, ◌%◌, ◌<◌, ◌≤◌, List, [], ◌∷◌, ◌++◌, length, get_or, drop, sym, refl, ap, ◌∙◌, subst, arith}
-use Rattle.std.specs.List.{flat_map, AllByRecursion as All}
+use Rattle.std.specs.List.{flat_map, AllByRecursion}
 use Rattle.events.specs.declared.event.Event.{Event}
 use Rattle.input.specs.Bytes.{four, event_bytes, Ranged}
 use Rattle.input.specs.Events.{tick_of, events_in}
@@ -18,7 +18,7 @@ pub events_whole : (es : List Event) → length (flat_map event_bytes es) % 8 �
 events_whole [] = refl
 events_whole (e ∷ es) = let h = events_whole es in omega arith
 
-module _ (r s p l a b c d : ℕ) (ranges : All (λ x. x < 256) (r ∷ s ∷ p ∷ l ∷ a ∷ b ∷ c ∷ d ∷ [])) where
+module _ (r s p l a b c d : ℕ) (ranges : AllByRecursion (λ x. x < 256) (r ∷ s ∷ p ∷ l ∷ a ∷ b ∷ c ∷ d ∷ [])) where
   abbrev pub first : Event
   first = record { role = r; direction = s; partner = p; label = l; tick = tick_of a b c d }
 
@@ -35,7 +35,7 @@ module _ (r s p l a b c d : ℕ) (ranges : All (λ x. x < 256) (r ∷ s ∷ p �
   first_bytes = ap (λ w. r ∷ s ∷ p ∷ l ∷ w) (four_is a b c d (tick_of a b c d) ranges.1.1.1.1.0 ranges.1.1.1.1.1.0 ranges.1.1.1.1.1.1.0 ranges.1.1.1.1.1.1.1.0 refl)
 
 -- whole events are the encoding of what is read from them
-pub events_are : (bytes : List ℕ) → All (λ x. x < 256) bytes → length bytes % 8 ≡ 0 → All Ranged (events_in bytes) × (flat_map event_bytes (events_in bytes) ≡ bytes)
+pub events_are : (bytes : List ℕ) → AllByRecursion (λ x. x < 256) bytes → length bytes % 8 ≡ 0 → AllByRecursion Ranged (events_in bytes) × (flat_map event_bytes (events_in bytes) ≡ bytes)
 events_are [] h w = (tt, refl)
 events_are (r ∷ []) h w = absurd (omega arith)
 events_are (r ∷ s ∷ []) h w = absurd (omega arith)
@@ -45,7 +45,7 @@ events_are (r ∷ s ∷ p ∷ l ∷ a ∷ []) h w = absurd (omega arith)
 events_are (r ∷ s ∷ p ∷ l ∷ a ∷ b ∷ []) h w = absurd (omega arith)
 events_are (r ∷ s ∷ p ∷ l ∷ a ∷ b ∷ c ∷ []) h w = absurd (omega arith)
 events_are (r ∷ s ∷ p ∷ l ∷ a ∷ b ∷ c ∷ d ∷ rest) h w =
-    let front : All (λ x. x < 256) (r ∷ s ∷ p ∷ l ∷ a ∷ b ∷ c ∷ d ∷ []) = (h.0, (h.1.0, (h.1.1.0, (h.1.1.1.0, (h.1.1.1.1.0, (h.1.1.1.1.1.0, (h.1.1.1.1.1.1.0, (h.1.1.1.1.1.1.1.0, tt)))))))) in
+    let front : AllByRecursion (λ x. x < 256) (r ∷ s ∷ p ∷ l ∷ a ∷ b ∷ c ∷ d ∷ []) = (h.0, (h.1.0, (h.1.1.0, (h.1.1.1.0, (h.1.1.1.1.0, (h.1.1.1.1.1.0, (h.1.1.1.1.1.1.0, (h.1.1.1.1.1.1.1.0, tt)))))))) in
     let shorter : length rest % 8 ≡ 0 = omega arith in
     let more = events_are rest h.1.1.1.1.1.1.1.1 shorter in
     ((first_ranged r s p l a b c d front, more.0), ap (λ w. w ++ flat_map event_bytes (events_in rest)) (first_bytes r s p l a b c d front) ∙ ap (λ w. r ∷ s ∷ p ∷ l ∷ a ∷ b ∷ c ∷ d ∷ w) more.1)
@@ -63,7 +63,7 @@ event_first (r ∷ s ∷ p ∷ l ∷ a ∷ []) rest e h g t is = absurd (omega a
 event_first (r ∷ s ∷ p ∷ l ∷ a ∷ b ∷ []) rest e h g t is = absurd (omega arith)
 event_first (r ∷ s ∷ p ∷ l ∷ a ∷ b ∷ c ∷ []) rest e h g t is = absurd (omega arith)
 event_first (r ∷ s ∷ p ∷ l ∷ a ∷ b ∷ c ∷ d ∷ more) rest e h g t is =
-    let front : All (λ x. x < 256) (r ∷ s ∷ p ∷ l ∷ a ∷ b ∷ c ∷ d ∷ []) = (g 0, (g 1, (g 2, (g 3, (g 4, (g 5, (g 6, (g 7, tt)))))))) in (
+    let front : AllByRecursion (λ x. x < 256) (r ∷ s ∷ p ∷ l ∷ a ∷ b ∷ c ∷ d ∷ []) = (g 0, (g 1, (g 2, (g 3, (g 4, (g 5, (g 6, (g 7, tt)))))))) in (
       subst Ranged (sym is) (first_ranged r s p l a b c d front),
       ap (λ f. event_bytes f ++ rest) is ∙ ap (λ w. w ++ rest) (first_bytes r s p l a b c d front) ∙ ap (λ w. r ∷ s ∷ p ∷ l ∷ a ∷ b ∷ c ∷ d ∷ w) t,
     )

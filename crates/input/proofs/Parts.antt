@@ -1,6 +1,6 @@
 -- An input and its parts.
 use Rattle.std.proofs.Common.{◌≡◌, ℕ, ◌%◌, ◌^◌, ◌<◌, ◌≤◌, List, [], ◌∷◌, ◌++◌, length, sym, refl, ap, ◌∙◌, subst, arith}
-use Rattle.std.specs.List.{flat_map, AllByRecursion as All}
+use Rattle.std.specs.List.{flat_map, AllByRecursion}
 use Rattle.events.specs.declared.event.Event.{Event}
 use Rattle.input.specs.Bytes.{sized, four, event_bytes, Ranged}
 use Rattle.input.specs.Events.{events_in}
@@ -8,7 +8,7 @@ use Rattle.input.specs.Laid.{input_bytes, Laid}
 use Rattle.input.proofs.Halves.{sized_same, four_same}
 use Rattle.input.proofs.Decoding.{events_back, events_whole, events_are}
 
-pub bytes_after : (x y : List ℕ) → All (λ b. b < 256) (x ++ y) → All (λ b. b < 256) y
+pub bytes_after : (x y : List ℕ) → AllByRecursion (λ b. b < 256) (x ++ y) → AllByRecursion (λ b. b < 256) y
 bytes_after [] y h = h
 bytes_after (b ∷ x) y h = bytes_after x y h.1
 
@@ -29,11 +29,11 @@ module _ (input sheet book after-sheet after-book bytes : List ℕ) (tick : ℕ)
   pub split_whole : (s b : List ℕ) (t : ℕ) (es : List Event) → Laid input s b t es → length bytes % 8 ≡ 0
   split_whole s b t es laid = ap (λ (l : List ℕ). length l % 8) (sym (split_only s b t es laid).3) ∙ events_whole es
 
-  pub split_laid : length sheet < 2 ^ 16 → length book < 2 ^ 16 → tick < 2 ^ 32 → All (λ x. x < 256) input → length bytes % 8 ≡ 0 → length input ≤ 65536 → Laid input sheet book tick (events_in bytes)
+  pub split_laid : length sheet < 2 ^ 16 → length book < 2 ^ 16 → tick < 2 ^ 32 → AllByRecursion (λ x. x < 256) input → length bytes % 8 ≡ 0 → length input ≤ 65536 → Laid input sheet book tick (events_in bytes)
   split_laid hs hb ht ranges whole most =
-      let first_tail = bytes_after (sized sheet) after-sheet (subst (All (λ b. b < 256)) (sym first) ranges) in
-      let second-tail = bytes_after (sized book) after-book (subst (All (λ b. b < 256)) (sym second) first_tail) in
-      let es = events_are bytes (bytes_after (four tick) bytes (subst (All (λ b. b < 256)) (sym third) second-tail)) whole in
+      let first_tail = bytes_after (sized sheet) after-sheet (subst (AllByRecursion (λ b. b < 256)) (sym first) ranges) in
+      let second-tail = bytes_after (sized book) after-book (subst (AllByRecursion (λ b. b < 256)) (sym second) first_tail) in
+      let es = events_are bytes (bytes_after (four tick) bytes (subst (AllByRecursion (λ b. b < 256)) (sym third) second-tail)) whole in
       record {
         bytes_are = ap (λ w. sized sheet ++ (sized book ++ (four tick ++ w))) es.1 ∙ ap (λ w. sized sheet ++ (sized book ++ w)) third ∙ ap (λ w. sized sheet ++ w) second ∙ first;
         sheet_fits = hs;

@@ -1,6 +1,6 @@
 -- Meaning: an input laid out of a sheet, a book, an opening tick and events.
 use Rattle.std.specs.Prelude.{◌≡◌, ℕ, ◌^◌, ◌<◌, ◌≤◌, List, ◌++◌, length}
-use Rattle.std.specs.List.{flat_map, AllByRecursion as All}
+use Rattle.std.specs.List.{flat_map, AllByRecursion}
 use Rattle.events.specs.declared.event.Event.{Event}
 use Rattle.input.specs.Bytes.{sized, four, event_bytes, Ranged}
 
@@ -14,7 +14,7 @@ pub record Laid (input sheet book : List ℕ) (tick : ℕ) (events : List Event)
   pub sheet_fits : length sheet < 2 ^ 16
   pub book_fits : length book < 2 ^ 16
   pub tick_fits : tick < 2 ^ 32
-  pub events_fit : All Ranged events
+  pub events_fit : AllByRecursion Ranged events
   pub most : length input ≤ 65536
 
 -- it is laid out of no parts

@@ -1,6 +1,6 @@
 -- Following a set, one label after the other.
 use Rattle.std.proofs.Common.{◌≡◌, ℕ, zero, suc, ◌+◌, ◌-◌, ◌<◌, ◌≤◌, Bool, true, false, cond, List, [], ◌∷◌, Some, None, filter, Option, sym, refl, ap, ◌∙◌, subst, arith}
-use Rattle.std.specs.List.{AllByRecursion as All}
+use Rattle.std.specs.List.{AllByRecursion}
 use Rattle.parting.specs.declared.act.Act.{Act}
 use Rattle.parting.specs.declared.edge.Edge.{Edge}
 use Rattle.parting.specs.declared.fault.PartFault.TheVariants.{Sets}
@@ -44,10 +44,10 @@ module _ (role : ℕ) (v : View) (labels k mask : ℕ) (found : List ℕ) (as' :
   unfolding visited
   visited_all more e f = rw (← are, e, f)
 
-pub all_kept : {X : Type 0} (P : X → Type 0) (test : X → Bool) (xs : List X) → All P xs → All P (filter test xs)
+pub all_kept : {X : Type 0} (P : X → Type 0) (test : X → Bool) (xs : List X) → AllByRecursion P xs → AllByRecursion P (filter test xs)
 all_kept P test [] h = h
 all_kept P test (x ∷ xs) h = go (test x) (all_kept P test xs h.1)
   where
-    go : (b : Bool) → All P (filter test xs) → All P (cond b (x ∷ filter test xs) (filter test xs))
+    go : (b : Bool) → AllByRecursion P (filter test xs) → AllByRecursion P (cond b (x ∷ filter test xs) (filter test xs))
     go true r = (h.0, r)
     go false r = r

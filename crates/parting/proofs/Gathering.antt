@@ -1,7 +1,7 @@
 -- What a mask that gathers from a list has.
 use Rattle.std.proofs.Common.{◌≡◌, ℕ, zero, suc, ◌<◌, Bool, true, false, cond, not, ◌&&◌, ◌||◌, eqb, ◌⊎◌, List, [], ◌∷◌, Decides, filter, sym, refl, ap, ◌∙◌, subst, inl, inr, arith}
 use mathlib.Core.List.{Memᴰ}
-use Rattle.std.specs.List.{AllByRecursion as All}
+use Rattle.std.specs.List.{AllByRecursion}
 use Rattle.std.proofs.lemmas.Bool.{eq-eqb, eqb-true, cases_Bool, cases_eq, cond-true, cond-false, or_cases, or_left, or_right, and_parts, and_from, false≢true, both_ways}
 use Rattle.parting.specs.Masks.{has, add, In, gather}
 use Rattle.parting.specs.Judge.{every, every_below}
@@ -96,11 +96,11 @@ kept_to test (y ∷ xs) x (Memᴰ.tail i) t = go (test y) (kept_to test xs x i t
     go true r = Memᴰ.tail r
     go false r = r
 
-pub all_mem : {A : Type 0} (P : A → Type 0) (xs : List A) → All P xs → (x : A) → Memᴰ x xs → P x
+pub all_mem : {A : Type 0} (P : A → Type 0) (xs : List A) → AllByRecursion P xs → (x : A) → Memᴰ x xs → P x
 all_mem P [] h x i = elim i [ ]
 all_mem P (y ∷ xs) h x (Memᴰ.head q) = subst P (sym q) h.0
 all_mem P (y ∷ xs) h x (Memᴰ.tail i) = all_mem P xs h.1 x i
 
-pub mem_all : {A : Type 0} (P : A → Type 0) (xs : List A) → ((x : A) → Memᴰ x xs → P x) → All P xs
+pub mem_all : {A : Type 0} (P : A → Type 0) (xs : List A) → ((x : A) → Memᴰ x xs → P x) → AllByRecursion P xs
 mem_all P [] h = tt
 mem_all P (x ∷ xs) h = (h x (Memᴰ.head refl), mem_all P xs (λ y i. h y (Memᴰ.tail i)))

@@ -1,7 +1,7 @@
 -- What validity says of the places of a sheet.
 use Rattle.std.proofs.Common.{◌≡◌, ℕ, zero, suc, ◌<◌, ◌≤◌, ◌≢◌, ◌⊎◌, List, [], ◌∷◌, length, get_or, sym, ap, ◌∙◌, subst, inl, inr, arith}
 use mathlib.Core.List.{Memᴰ}
-use Rattle.std.specs.List.{AllByRecursion as All}
+use Rattle.std.specs.List.{AllByRecursion}
 use Rattle.std.proofs.lemmas.List.{get_or_past}
 use Rattle.std.proofs.ByRecursion.{All-get_or}
 use Rattle.std.proofs.lemmas.Bool.{cases_lt, cases_order}
@@ -13,7 +13,7 @@ use Rattle.protocol.specs.Actions.{Action, turn, sending, receiving}
 use Rattle.protocol.specs.Sets.{Acts}
 use Rattle.protocol.proofs.Turns.{Side, as_sender, as_receiver, aside, side, nil_cons, cons_head, asked_label}
 
-all_member : {X : Type 0} (P : X → Type 0) (xs : List X) (x : X) → All P xs → Memᴰ x xs → P x
+all_member : {X : Type 0} (P : X → Type 0) (xs : List X) (x : X) → AllByRecursion P xs → Memᴰ x xs → P x
 all_member P [] x all i = elim i [ ]
 all_member P (y ∷ xs) x all (Memᴰ.head q) = subst P (sym q) all.0
 all_member P (y ∷ xs) x all (Memᴰ.tail i) = all_member P xs x all.1 i

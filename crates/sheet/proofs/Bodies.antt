@@ -1,6 +1,6 @@
 -- A state and its bytes, each from the other.
 use Rattle.std.proofs.Common.{◌≡◌, ℕ, ◌*◌, ◌/◌, ◌%◌, List, [], ◌∷◌, map, length, refl, ap, arith}
-use Rattle.std.specs.List.{flat_map, AllByRecursion as All}
+use Rattle.std.specs.List.{flat_map, AllByRecursion}
 use Rattle.sheet.specs.declared.branch.Branch.{Branch}
 use Rattle.sheet.specs.Model.{State, ended, exchange}
 use Rattle.sheet.specs.Encode.{branch_bytes, body}
@@ -29,7 +29,7 @@ body_state_of [] h = refl
 body_state_of (a ∷ []) h = absurd (omega arith)
 body_state_of (a ∷ b ∷ rest) h = ap (λ (more : List ℕ). a ∷ b ∷ more) (joined_branches rest (omega arith))
 
-pub map-body_state_of : (ps : List (List ℕ)) → All (λ p. BodySize (length p)) ps → map body (map state_of ps) ≡ ps
+pub map-body_state_of : (ps : List (List ℕ)) → AllByRecursion (λ p. BodySize (length p)) ps → map body (map state_of ps) ≡ ps
 map-body_state_of [] h = refl
 map-body_state_of (p ∷ ps) h = rw (body_state_of p h.0, map-body_state_of ps h.1)
 

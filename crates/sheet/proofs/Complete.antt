@@ -1,6 +1,6 @@
 -- The encoding of a valid sheet has no fault.
 use Rattle.std.proofs.Common.{◌≡◌, ℕ, ◌+◌, List, ◌++◌, map, length, take, drop, None, sym, refl, ap, ◌∙◌, arith}
-use Rattle.std.specs.List.{AllByRecursion as All}
+use Rattle.std.specs.List.{AllByRecursion}
 use Rattle.std.proofs.lemmas.List.{append_assoc, length-append, take_at, drop_at, take-map, drop-map}
 use Rattle.std.proofs.ByRecursion.{All-weaker, All-append, All-map}
 use Rattle.sheet.specs.Model.{Name, Sheet}
@@ -17,7 +17,7 @@ use Rattle.sheet.proofs.StateRules.{Rules, rules_from_good, size_from_good}
 use Rattle.sheet.proofs.Pieces.{piece_count_encode, length-encode, table_encode, model_encode}
 use Rattle.sheet.proofs.Whole.{GoodNames, Whole, clear_fault}
 
-good_names : (names : List Name) → All GoodName names → Distinct names → GoodNames names
+good_names : (names : List Name) → AllByRecursion GoodName names → Distinct names → GoodNames names
 good_names names g d = (All-weaker GoodName Printable (λ p h. h.1) names g, new_from_distinct names d)
 
 module _ (sh : Sheet) (v : Valid sh) where

@@ -1,6 +1,6 @@
 -- What the check of the names has to say: printable bytes, and no name the same as an earlier one.
 use Rattle.std.proofs.Common.{◌≡◌, ℕ, ◌+◌, ◌<◌, ◌≤◌, true, not, ◌⊎◌, List, [], ◌∷◌, ◌++◌, map, length, get_or, Decides, sym, refl, subst, inl, inr, arith}
-use Rattle.std.specs.List.{HoldsAt, AllByRecursion as All}
+use Rattle.std.specs.List.{HoldsAt, AllByRecursion}
 use Rattle.std.proofs.lemmas.List.{append_assoc, length-append, length_push, get_or_at, get_or_append_left, get_or_default}
 use Rattle.std.proofs.lemmas.Bool.{cases_eq}
 use Rattle.std.proofs.lemmas.Bool.Decides.{Decides-by_or, Decides-not, Decides-like}
@@ -14,7 +14,7 @@ use Rattle.sheet.specs.Refuse.{byte_fault, among, name_fault}
 use Rattle.sheet.proofs.Checks.{Clear, clear_unless, clear_first, clear_like, decides_within}
 
 abbrev pub Printable : Name → Type 0
-Printable = All (Between 0x21 0x7E)
+Printable = AllByRecursion (Between 0x21 0x7E)
 
 pub clear_bytes : (offset : ℕ) (name : Name) → Clear (byte_fault offset name) (Printable name)
 clear_bytes offset [] = (λ _. tt, λ _. refl)
@@ -43,7 +43,7 @@ abbrev pub New : List Name → List Name → Type 0
 New earlier [] = Unit {0}
 New earlier (p ∷ ps) = Fresh p earlier × New (earlier ++ p ∷ []) ps
 
-pub clear_names : (bytes : List ℕ) (i : ℕ) (earlier : List Name) (ss : List Span) → Clear (name_fault bytes i earlier ss) (All Printable (map (cut bytes) ss) × New earlier (map (cut bytes) ss))
+pub clear_names : (bytes : List ℕ) (i : ℕ) (earlier : List Name) (ss : List Span) → Clear (name_fault bytes i earlier ss) (AllByRecursion Printable (map (cut bytes) ss) × New earlier (map (cut bytes) ss))
 clear_names bytes i earlier [] = (λ _. (tt, tt), λ _. refl)
 clear_names bytes i earlier (s ∷ ss) =
     clear_like _

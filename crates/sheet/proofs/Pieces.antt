@@ -1,7 +1,7 @@
 -- A sheet and its pieces, each from the other.
 use Rattle.std.proofs.Common.{◌≡◌, ℕ, ◌+◌, ◌*◌, List, ◌++◌, map, length, take, drop, sym, refl, ap, ◌∙◌, arith}
 use mathlib.Core.List.{map-map}
-use Rattle.std.specs.List.{flat_map, AllByRecursion as All}
+use Rattle.std.specs.List.{flat_map, AllByRecursion}
 use Rattle.std.proofs.lemmas.List.{length-append, length-map, length-drop, length-take-le, take-append-drop, drop-drop, take_at, drop_at, take-map, drop-map}
 use Rattle.sheet.specs.declared.counts.Counts.{Counts}
 use Rattle.sheet.specs.Model.{Sheet}
@@ -36,7 +36,7 @@ model_parted bytes =
     let sts : map state_of (drop (name_count_of c) (map (cut bytes) ss)) ≡ map (state_at bytes) (drop (name_count_of c) ss) = ap (map state_of) (drop-map (cut bytes) (name_count_of c) ss) ∙ map-map state_of (cut bytes) (drop (name_count_of c) ss) in
     rw (rs, ls, sts)
 
-pub pieces_parted : (c : Counts) (ps : List (List ℕ)) → All (λ p. BodySize (length p)) (drop (name_count_of c) ps) → pieces (parted c ps) ≡ ps
+pub pieces_parted : (c : Counts) (ps : List (List ℕ)) → AllByRecursion (λ p. BodySize (length p)) (drop (name_count_of c) ps) → pieces (parted c ps) ≡ ps
 pieces_parted c ps h =
     rw (map-body_state_of (drop (name_count_of c) ps) h, ← drop-drop c.labels c.roles ps, take-append-drop c.labels (drop c.roles ps), take-append-drop c.roles ps)
 

@@ -1,7 +1,7 @@
 -- What the pairs have to say: each piece begins where the one before ends, the last ends with the sheet, and names and
 -- states have the lengths that are allowed.
 use Rattle.std.proofs.Common.{◌≡◌, ℕ, zero, suc, ◌+◌, ◌-◌, ◌<◌, ◌≤◌, Bool, true, false, cond, eqb, ltb, List, [], ◌∷◌, map, length, get_or, take, drop, Decides, MatchBool, subst, arith}
-use Rattle.std.specs.List.{AllByRecursion as All}
+use Rattle.std.specs.List.{AllByRecursion}
 use Rattle.std.proofs.lemmas.Bool.{lt-ltb, le-ltb}
 use Rattle.std.proofs.lemmas.Bool.Decides.{Decides-and, Decides-eqb, when_true, when_false}
 use Rattle.sheet.specs.declared.fault.ReadFault.TheVariants.{Pair}
@@ -28,7 +28,7 @@ sized_at names i (n ∷ ns) z (suc j) h =
     subst (λ (k : ℕ). PieceSize names k (get_or ns j 0)) e (sized_at names (i + 1) ns z.1 j (omega arith))
 
 -- k names are left, and then states
-pub sizes_from_sized : (names i k : ℕ) (ns : List ℕ) → names - i ≡ k → Sized names i ns → All (Between 1 12) (take k ns) × All BodySize (drop k ns)
+pub sizes_from_sized : (names i k : ℕ) (ns : List ℕ) → names - i ≡ k → Sized names i ns → AllByRecursion (Between 1 12) (take k ns) × AllByRecursion BodySize (drop k ns)
 sizes_from_sized names i zero [] e z = (tt, tt)
 sizes_from_sized names i (suc k) [] e z = (tt, tt)
 sizes_from_sized names i zero (n ∷ ns) e z =
@@ -38,7 +38,7 @@ sizes_from_sized names i (suc k) (n ∷ ns) e z =
     let rest = sizes_from_sized names (i + 1) k ns (omega arith) z.1 in
     ((when_true (Between 1 12 n) (BodySize n) (lt-ltb i names (omega arith)) z.0, rest.0), rest.1)
 
-pub sized_from_sizes : (names i k : ℕ) (ns : List ℕ) → names - i ≡ k → All (Between 1 12) (take k ns) → All BodySize (drop k ns) → Sized names i ns
+pub sized_from_sizes : (names i k : ℕ) (ns : List ℕ) → names - i ≡ k → AllByRecursion (Between 1 12) (take k ns) → AllByRecursion BodySize (drop k ns) → Sized names i ns
 sized_from_sizes names i k [] e a b = tt
 sized_from_sizes names i zero (n ∷ ns) e a b =
     let above : ltb i names ≡ false = le-ltb i names (omega arith) in

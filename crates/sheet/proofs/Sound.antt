@@ -1,6 +1,6 @@
 -- Bytes without a fault are the encoding of the valid sheet that is read from them.
 use Rattle.std.proofs.Common.{◌≡◌, ℕ, ◌*◌, ◌≤◌, List, [], ◌∷◌, ◌++◌, length, take, drop, None, sym, refl, ap, ◌∙◌, ap₂, arith}
-use Rattle.std.specs.List.{flat_map, AllByRecursion as All}
+use Rattle.std.specs.List.{flat_map, AllByRecursion}
 use Rattle.std.proofs.lemmas.List.{take-append-drop, take-take, drop-take, drop-drop, length-drop}
 use Rattle.std.proofs.ByRecursion.{All-weaker, All-take, All-drop, All-map}
 use Rattle.sheet.specs.Model.{Name}
@@ -17,7 +17,7 @@ use Rattle.sheet.proofs.StateRules.{Rules, good_from_rules}
 use Rattle.sheet.proofs.Pieces.{cuts, length-cuts, model_parted, counted_model}
 use Rattle.sheet.proofs.Whole.{Whole, clear_fault, name_lengths, state_lengths, pieces_model}
 
-all_both : {X : Type 0} (P Q : X → Type 0) (xs : List X) → All P xs → All Q xs → All (λ x. P x × Q x) xs
+all_both : {X : Type 0} (P Q : X → Type 0) (xs : List X) → AllByRecursion P xs → AllByRecursion Q xs → AllByRecursion (λ x. P x × Q x) xs
 all_both P Q [] p q = tt
 all_both P Q (x ∷ xs) p q = ((p.0, q.0), all_both P Q xs p.1 q.1)
 
@@ -55,20 +55,20 @@ module _ (bytes : List ℕ) (whole : Whole bytes) where
       let rest : pairs (begin (length ps)) ps ++ flat_map (λ p. p) ps ≡ drop 5 bytes = rw (pieces_model bytes whole, length-cuts bytes, pair_bytes ok, piece_bytes) (take-append-drop (4 * piece_count_in (counts bytes)) (drop 5 bytes)) in
       ap₂ (λ (xs ys : List ℕ). xs ++ ys) header_bytes rest ∙ take-append-drop 5 bytes
 
-  good_names : (names : List Name) → All (λ p. Between 1 12 (length p)) names → All Printable names → All GoodName names
+  good_names : (names : List Name) → AllByRecursion (λ p. Between 1 12 (length p)) names → AllByRecursion Printable names → AllByRecursion GoodName names
   good_names names z p = all_both (λ q. Between 1 12 (length q)) Printable names z p
 
-  role_sizes : All (λ p. Between 1 12 (length p)) (model bytes).roles
+  role_sizes : AllByRecursion (λ p. Between 1 12 (length p)) (model bytes).roles
   role_sizes =
       rw (model_parted bytes, ← take-take (counts bytes).roles (name_count_of (counts bytes)) (cuts bytes) (omega arith))
       (All-take _ (counts bytes).roles (take (name_count_of (counts bytes)) (cuts bytes)) (name_lengths bytes whole))
 
-  label_sizes : All (λ p. Between 1 12 (length p)) (model bytes).labels
+  label_sizes : AllByRecursion (λ p. Between 1 12 (length p)) (model bytes).labels
   label_sizes =
       rw (model_parted bytes, ← drop-take (counts bytes).roles (counts bytes).labels (cuts bytes))
       (All-drop _ (counts bytes).roles (take (name_count_of (counts bytes)) (cuts bytes)) (name_lengths bytes whole))
 
-  state_sizes : All (λ st. BodySize (length (body st))) (model bytes).states
+  state_sizes : AllByRecursion (λ st. BodySize (length (body st))) (model bytes).states
   state_sizes =
       rw (model_parted bytes)
       (All-map (λ st. BodySize (length (body st))) state_of (drop (name_count_of (counts bytes)) (cuts bytes))

@@ -1,6 +1,6 @@
 -- What the check of the states has to say: known roles, labels, states and rows, and labels that rise.
 use Rattle.std.proofs.Common.{◌≡◌, ℕ, zero, suc, ◌+◌, ◌*◌, ◌<◌, ◌≤◌, ltb, ◌≢◌, List, [], ◌∷◌, map, length, get_or, Decides, refl, inl, inr, arith}
-use Rattle.std.specs.List.{AllByRecursion as All}
+use Rattle.std.specs.List.{AllByRecursion}
 use Rattle.std.proofs.lemmas.Bool.Decides.{Decides-and, Decides-or, Decides-not, Decides-eqb, Decides-ltb}
 use Rattle.sheet.specs.declared.branch.Branch.{Branch}
 use Rattle.sheet.specs.declared.counts.Counts.{Counts}
@@ -46,7 +46,7 @@ above_from_rising low (b ∷ bs) l r =
 abbrev pub Rules : Sheet → State → Type 0
 Rules sh ended = Unit {0}
 Rules sh (exchange sender receiver bs) =
-    (sender < length sh.roles) × (((receiver < length sh.roles) × (receiver ≢ sender)) × (Above 0 bs × All (GoodBranch sh) bs))
+    (sender < length sh.roles) × (((receiver < length sh.roles) × (receiver ≢ sender)) × (Above 0 bs × AllByRecursion (GoodBranch sh) bs))
 
 pub good_from_rules : (sh : Sheet) (st : State) → BodySize (length (body st)) → Rules sh st → GoodState sh st
 good_from_rules sh ended z r = tt
@@ -95,7 +95,7 @@ module _ (sh : Sheet) (c : Counts) (counted : Counted sh c) where
       (clear_first _ _ (clear_unless _ (fault.State (offset + 3)) (decides_row b.receive))
       (clear_unless _ (fault.State (offset + 4)) (decides_leb b.resets 3))))))
 
-  pub clear_branches : (offset low : ℕ) (bs : List Branch) → Clear (branches_fault c offset low bs) (Above low bs × All (GoodBranch sh) bs)
+  pub clear_branches : (offset low : ℕ) (bs : List Branch) → Clear (branches_fault c offset low bs) (Above low bs × AllByRecursion (GoodBranch sh) bs)
   clear_branches offset low [] = (λ _. (tt, tt), λ _. refl)
   clear_branches offset low (b ∷ bs) =
       clear_like _
@@ -110,6 +110,6 @@ module _ (sh : Sheet) (c : Counts) (counted : Counted sh c) where
       (clear_first _ _ (clear_unless _ (fault.State (offset + 1)) (Decides-and _ _ (decides_role receiver) (Decides-not _ (Decides-eqb receiver sender))))
       (clear_branches (offset + 2) 0 bs))
 
-  pub clear_states : (bytes : List ℕ) (ss : List Span) → Clear (states_fault c bytes ss) (All (Rules sh) (map (state_at bytes) ss))
+  pub clear_states : (bytes : List ℕ) (ss : List Span) → Clear (states_fault c bytes ss) (AllByRecursion (Rules sh) (map (state_at bytes) ss))
   clear_states bytes [] = (λ _. tt, λ _. refl)
   clear_states bytes (s ∷ ss) = clear_first _ _ (clear_state s.offset (state_at bytes s)) (clear_states bytes ss)

@@ -1,6 +1,6 @@
 -- Bytes have no fault exactly where they are whole: header, pairs, names and states, each as the checks want it.
 use Rattle.std.proofs.Common.{◌≡◌, ℕ, ◌≤◌, List, [], ◌∷◌, map, length, take, drop, sym, ap, ◌∙◌, subst, arith}
-use Rattle.std.specs.List.{AllByRecursion as All}
+use Rattle.std.specs.List.{AllByRecursion}
 use Rattle.std.proofs.lemmas.List.{take-map, drop-map}
 use Rattle.std.proofs.lemmas.Bool.Decides.{Decides-eqb}
 use Rattle.sheet.specs.declared.counts.Counts.{Counts}
@@ -38,7 +38,7 @@ clear_header bytes =
     (clear_unless _ (Short (length bytes)) (decides_leb (begin (piece_count_in (counts bytes))) (length bytes)))))
 
 abbrev pub GoodNames : List Name → Type 0
-GoodNames names = All Printable names × New [] names
+GoodNames names = AllByRecursion Printable names × New [] names
 
 pub record Whole (bytes : List ℕ) : Type 0 where
   pub long : 5 ≤ length bytes
@@ -49,7 +49,7 @@ pub record Whole (bytes : List ℕ) : Type 0 where
   pub sized : Sized (name_count_of (counts bytes)) 0 (map (λ s. s.size) (table bytes))
   pub roles : GoodNames (model bytes).roles
   pub labels : GoodNames (model bytes).labels
-  pub states : All (Rules (model bytes)) (model bytes).states
+  pub states : AllByRecursion (Rules (model bytes)) (model bytes).states
 
 pub clear_fault : (bytes : List ℕ) → Clear (fault bytes) (Whole bytes)
 unfolding fault model
@@ -63,21 +63,21 @@ clear_fault bytes =
     (clear_first _ _ (clear_names bytes (counts bytes).roles [] (label_spans bytes))
     (clear_states (model bytes) (counts bytes) (counted_model bytes) bytes (state_spans bytes))))))
 
-all_unmap : {X Y : Type 0} (P : Y → Type 0) (f : X → Y) (xs : List X) → All P (map f xs) → All (λ x. P (f x)) xs
+all_unmap : {X Y : Type 0} (P : Y → Type 0) (f : X → Y) (xs : List X) → AllByRecursion P (map f xs) → AllByRecursion (λ x. P (f x)) xs
 all_unmap P f [] h = tt
 all_unmap P f (x ∷ xs) h = (h.0, all_unmap P f xs h.1)
 
 module _ (bytes : List ℕ) (whole : Whole bytes) where
-  sizes : All (Between 1 12) (take (name_count_of (counts bytes)) (map length (cuts bytes))) × All BodySize (drop (name_count_of (counts bytes)) (map length (cuts bytes)))
+  sizes : AllByRecursion (Between 1 12) (take (name_count_of (counts bytes)) (map length (cuts bytes))) × AllByRecursion BodySize (drop (name_count_of (counts bytes)) (map length (cuts bytes)))
   sizes =
       let at : ℕ = begin (piece_count_in (counts bytes)) in
       let e : map (λ s. s.size) (table bytes) ≡ map length (cuts bytes) = ap (map (λ (s : Span). s.size)) (sym (laid_from_tiled bytes at (table bytes) whole.tiled)) ∙ sizes_laid at (cuts bytes) in
       sizes_from_sized (name_count_of (counts bytes)) 0 (name_count_of (counts bytes)) (map length (cuts bytes)) (omega arith) (subst (Sized (name_count_of (counts bytes)) 0) e whole.sized)
 
-  pub name_lengths : All (λ p. Between 1 12 (length p)) (take (name_count_of (counts bytes)) (cuts bytes))
+  pub name_lengths : AllByRecursion (λ p. Between 1 12 (length p)) (take (name_count_of (counts bytes)) (cuts bytes))
   name_lengths = all_unmap (Between 1 12) length (take (name_count_of (counts bytes)) (cuts bytes)) (rw (← take-map length (name_count_of (counts bytes)) (cuts bytes)) sizes.0)
 
-  pub state_lengths : All (λ p. BodySize (length p)) (drop (name_count_of (counts bytes)) (cuts bytes))
+  pub state_lengths : AllByRecursion (λ p. BodySize (length p)) (drop (name_count_of (counts bytes)) (cuts bytes))
   state_lengths = all_unmap BodySize length (drop (name_count_of (counts bytes)) (cuts bytes)) (rw (← drop-map length (name_count_of (counts bytes)) (cuts bytes)) sizes.1)
 
   pub pieces_model : pieces (model bytes) ≡ cuts bytes

@@ -1,6 +1,6 @@
 -- Meaning: what the order of refusals has to do with the format.
 use Rattle.std.specs.Prelude.{◌≡◌, ℕ, ◌<◌, ◌↔◌, List, None}
-use Rattle.std.specs.List.{AllByRecursion as All}
+use Rattle.std.specs.List.{AllByRecursion}
 use Rattle.sheet.specs.Decode.{model}
 use Rattle.sheet.specs.Encode.{encode}
 use Rattle.sheet.specs.Model.{Sheet}
@@ -8,7 +8,7 @@ use Rattle.sheet.specs.Refuse.{fault}
 use Rattle.sheet.specs.Valid.{Valid}
 
 abbrev pub Bytes : List ℕ → Type 0
-Bytes = All (λ b. b < 256)
+Bytes = AllByRecursion (λ b. b < 256)
 
 -- the bytes of a valid sheet
 pub record Encodes (bytes : List ℕ) (sh : Sheet) : Type 0 where

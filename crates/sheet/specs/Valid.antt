@@ -1,6 +1,6 @@
 -- Meaning: which sheets are valid.
 use Rattle.std.specs.Prelude.{◌≡◌, ℕ, ◌<◌, ◌≤◌, true, ◌≢◌, ◌⊎◌, List, [], length, get_or, slice_index_or}
-use Rattle.std.specs.List.{AllByRecursion as All}
+use Rattle.std.specs.List.{AllByRecursion}
 use Rattle.sheet.specs.declared.branch.Branch.{Branch}
 use Rattle.sheet.specs.Model.{Name, State, ended, exchange, Sheet}
 use Rattle.sheet.specs.Names.{same}
@@ -10,7 +10,7 @@ Between low high n = (low ≤ n) × (n ≤ high)
 
 -- 1 to 12 printable bytes, no space
 abbrev pub GoodName : Name → Type 0
-GoodName name = Between 1 12 (length name) × All (Between 0x21 0x7E) name
+GoodName name = Between 1 12 (length name) × AllByRecursion (Between 0x21 0x7E) name
 
 -- no two of the names are the same
 abbrev pub Distinct : List Name → Type 0
@@ -39,7 +39,7 @@ pub record GoodExchange (sh : Sheet) (sender receiver : ℕ) (branches : List Br
   pub receiver_known : receiver < length sh.roles
   pub apart : receiver ≢ sender
   pub count : Between 1 8 (length branches)
-  pub good : All (GoodBranch sh) branches
+  pub good : AllByRecursion (GoodBranch sh) branches
   pub rising : Rising branches
 
 abbrev pub GoodState : Sheet → State → Type 0
@@ -51,8 +51,8 @@ pub record Valid (sh : Sheet) : Type 0 where
   pub label_count : Between 1 32 (length sh.labels)
   pub state_count : Between 1 64 (length sh.states)
   pub row_count : sh.rows ≤ 64
-  pub role_names : All GoodName sh.roles
-  pub label_names : All GoodName sh.labels
+  pub role_names : AllByRecursion GoodName sh.roles
+  pub label_names : AllByRecursion GoodName sh.labels
   pub roles_distinct : Distinct sh.roles
   pub labels_distinct : Distinct sh.labels
-  pub good_states : All (GoodState sh) sh.states
+  pub good_states : AllByRecursion (GoodState sh) sh.states

@@ -1,5 +1,5 @@
 use Rattle.std.proofs.Common.{◌<◌, ◌≤◌, ◌++◌, length, sym, ap, ◌∙◌, arith}
-use Rattle.std.specs.List.{flat_map, AllByRecursion as All}
+use Rattle.std.specs.List.{flat_map, AllByRecursion}
 use Rattle.std.proofs.ByRecursion.{All-from_get_or}
 use Rattle.input.specs.Bytes.{sized, four, event_bytes}
 use Rattle.input.proofs.Halves.{sized_same}
@@ -29,7 +29,7 @@ returns-then-events-ne0 c = λ s b t es laid.
 pub returns : goal.returns
 returns c =
     let input = c.args.input.now in
-    let ranges : All (λ b. b < 256) input = All-from_get_or (λ b. b < 256) input 0 (λ i _. omega (arith, c.type_inv.input i)) in
+    let ranges : AllByRecursion (λ b. b < 256) input = All-from_get_or (λ b. b < 256) input 0 (λ i _. omega (arith, c.type_inv.input i)) in
     let first = c.in_ok-sheet.ensures in
     let second = c.in_ok-book.ensures in
     let third = c.in_ok-tick.ensures in
