@@ -1,6 +1,6 @@
 -- What waits in the channels after a run, and what one event more does to it.
 use Rattle.std.proofs.Common.{◌≡◌, ℕ, ◌-◌, ◌≤◌, Bool, true, false, cond, ◌&&◌, eqb, ◌≢◌, ◌⊎◌, List, [], ◌∷◌, ◌++◌, map, length, drop, sym, refl, ap, ◌∙◌, subst, inl, inr, arith}
-use Rattle.std.specs.List.{AllByRecursion as All}
+use Rattle.std.specs.List.{AllByRecursion}
 use Rattle.std.proofs.ByRecursion.{All-drop, All-map, All-append}
 use Rattle.sheet.specs.Model.{Sheet}
 use Rattle.protocol.specs.Actions.{Way, sends, receives, Action}
@@ -19,7 +19,7 @@ use Rattle.runs.proofs.Agree.{direction_small}
 use Rattle.runs.proofs.Fronts.{run_front}
 
 -- no event is later than the last
-pub rising_late : (o : ℕ) (es : List Event) → Rising o es → (o ≤ last_tick o es) × All (λ e. e.tick ≤ last_tick o es) es
+pub rising_late : (o : ℕ) (es : List Event) → Rising o es → (o ≤ last_tick o es) × AllByRecursion (λ e. e.tick ≤ last_tick o es) es
 rising_late o [] r = (omega arith, tt)
 rising_late o (e ∷ es) r =
     let x = rising_late e.tick es r.1 in
@@ -27,25 +27,25 @@ rising_late o (e ∷ es) r =
     (omega arith, (x.0, x.1))
 
 -- what holds of all events holds of those that are kept
-pub all_own : (P : Event → Type 0) (m : ℕ) (es : List Event) → All P es → All P (own m es)
+pub all_own : (P : Event → Type 0) (m : ℕ) (es : List Event) → AllByRecursion P es → AllByRecursion P (own m es)
 unfolding mine
 all_own P m [] k = tt
 all_own P m (e ∷ es) k = All-append P (mine m e) (own m es) (kept (eqb m e.role)) (all_own P m es k.1)
   where
-    kept : (b : Bool) → All P (cond b (e ∷ []) [])
+    kept : (b : Bool) → AllByRecursion P (cond b (e ∷ []) [])
     kept true = (k.0, tt)
     kept false = tt
 
-all_exchanged : (P : Event → Type 0) (w : Way) (n : ℕ) (es : List Event) → All P es → All P (exchanged w n es)
+all_exchanged : (P : Event → Type 0) (w : Way) (n : ℕ) (es : List Event) → AllByRecursion P es → AllByRecursion P (exchanged w n es)
 unfolding along
 all_exchanged P w n [] k = tt
 all_exchanged P w n (e ∷ es) k = All-append P (along w n e) (exchanged w n es) (kept (eqb (direction_of w) e.direction && eqb n e.partner)) (all_exchanged P w n es k.1)
   where
-    kept : (b : Bool) → All P (cond b (e ∷ []) [])
+    kept : (b : Bool) → AllByRecursion P (cond b (e ∷ []) [])
     kept true = (k.0, tt)
     kept false = tt
 
-waiting_late : (t : ℕ) (a b : ℕ) (es : List Event) → All (λ e. e.tick ≤ t) es → All (λ (x : Message). x.tick ≤ t) (waiting a b es)
+waiting_late : (t : ℕ) (a b : ℕ) (es : List Event) → AllByRecursion (λ e. e.tick ≤ t) es → AllByRecursion (λ (x : Message). x.tick ≤ t) (waiting a b es)
 unfolding waiting
 waiting_late t a b es k =
     All-drop (λ (x : Message). x.tick ≤ t) (length (taken a b es)) (map message (sent a b es))
@@ -106,7 +106,7 @@ module _ (sh : Sheet) (book : Book) (o d : ℕ) (es : List Event) (e : Event) (r
           let fit : Fit d es e receives = fit_from d es e receives q ordered (channels_now d (es ++ (e ∷ [])) r.channels) in
           let w : waiting e.partner e.role (es ++ (e ∷ [])) ≡ drop 1 (waiting e.partner e.role es) = step receives q e.partner e.role ∙ after_shorter (λ a b. waiting a b es) e e.partner e.role refl refl in
           let v : waiting e.partner e.role (es ++ (e ∷ [])) ≡ fit.1 = w ∙ ap (drop 1) fit.2 in
-          let late : All (λ (x : Message). x.tick ≤ last_tick o es) (fit.0 ∷ fit.1) = subst (All (λ (x : Message). x.tick ≤ last_tick o es)) fit.2 (waiting_late (last_tick o es) e.partner e.role es (rising_late o es before.ticks).1) in
+          let late : AllByRecursion (λ (x : Message). x.tick ≤ last_tick o es) (fit.0 ∷ fit.1) = subst (AllByRecursion (λ (x : Message). x.tick ≤ last_tick o es)) fit.2 (waiting_late (last_tick o es) e.partner e.role es (rising_late o es before.ticks).1) in
           let last : last_tick o es ≤ e.tick = rising_last o es e r.ticks in
           let first : fit.0.tick ≤ last_tick o es = late.0 in
           (fit.0, fit.2 ∙ ap (λ (z : List Message). fit.0 ∷ z) (sym v), fit.3, omega arith, ap (λ (z : List Message). e.tick - oldest_tick z) fit.2)

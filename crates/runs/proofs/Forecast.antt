@@ -1,6 +1,6 @@
 -- What a forecast can be computed from: the actions of the role's set, room in its channels, and its clock.
 use Rattle.std.proofs.Common.{◌≡◌, ℕ, ◌-◌, ◌<◌, ◌≤◌, Bool, true, false, cond, ◌↔◌, List, [], ◌∷◌, length, sym, refl, subst, subst₂}
-use Rattle.std.specs.List.{AllByRecursion as All}
+use Rattle.std.specs.List.{AllByRecursion}
 use Rattle.sheet.specs.Model.{Sheet}
 use Rattle.sheet.specs.Valid.{Valid}
 use Rattle.protocol.specs.Actions.{Way, sends, receives, Timing, Action}
@@ -82,7 +82,7 @@ could_by_action sh book valid depth σ m t = (there, back)
         )
 
 -- no clock was reset after the latest tick
-reset_late : (o t : ℕ) (es : List Event) (ts : List Timing) → o ≤ t → All (λ e. e.tick ≤ t) es → last_reset o es ts ≤ t
+reset_late : (o t : ℕ) (es : List Event) (ts : List Timing) → o ≤ t → AllByRecursion (λ e. e.tick ≤ t) es → last_reset o es ts ≤ t
 reset_late o t [] ts l k = l
 reset_late o t (e ∷ es) [] l k = l
 reset_late o t (e ∷ es) (u ∷ ts) l k = reset_late (cond u.reset e.tick o) t es ts (either u.reset) k.1

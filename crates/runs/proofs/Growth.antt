@@ -2,7 +2,7 @@
 use Rattle.std.proofs.Common.{◌≡◌, ℕ, ◌+◌, ◌-◌, ◌<◌, ◌≤◌, false, ◌&&◌, eqb, ◌⊎◌, List, [], ◌∷◌, ◌++◌, map, length, drop, sym, refl, ap, ◌∙◌, subst, ap₂, inl, inr, append_assoc, append-nil, arith, length-append}
 use mathlib.Core.List.{append_cancel_left, map-append}
 use lib.ListN.{length-map}
-use Rattle.std.specs.List.{AllByRecursion as All}
+use Rattle.std.specs.List.{AllByRecursion}
 use Rattle.std.proofs.lemmas.List.{drop_at, drop-drop, drop-append-le, drop-map, length-drop}
 use Rattle.std.proofs.lemmas.Bool.{cond-true, cond-false, eq-eqb, ne_eqb, cases_eq, and_from, and_left, and_right}
 use Rattle.protocol.specs.Actions.{Way, sends, receives}
@@ -34,11 +34,11 @@ rising_front o [] back r = tt
 rising_front o (x ∷ front) back r = (r.0, rising_front x.tick front back r.1)
 
 -- Roles.
-pub all_last : (P : Event → Type 0) (es : List Event) (e : Event) → All P (es ++ (e ∷ [])) → P e
+pub all_last : (P : Event → Type 0) (es : List Event) (e : Event) → AllByRecursion P (es ++ (e ∷ [])) → P e
 all_last P [] e k = k.0
 all_last P (x ∷ es) e k = all_last P es e k.1
 
-pub all_front : (P : Event → Type 0) (front back : List Event) → All P (front ++ back) → All P front
+pub all_front : (P : Event → Type 0) (front back : List Event) → AllByRecursion P (front ++ back) → AllByRecursion P front
 all_front P [] back k = tt
 all_front P (x ∷ front) back k = (k.0, all_front P front back k.1)
 

@@ -1,6 +1,6 @@
 -- A role's own events, what it exchanges with a partner, and a list without a role's first event.
 use Rattle.std.proofs.Common.{◌≡◌, ℕ, suc, ◌<◌, ◌≤◌, ◌&&◌, eqb, ◌≢◌, ◌⊎◌, List, [], ◌∷◌, ◌++◌, length, sym, refl, ap, ◌∙◌, subst, ap₂, inl, inr, append_assoc, append-nil, arith}
-use Rattle.std.specs.List.{AllByRecursion as All}
+use Rattle.std.specs.List.{AllByRecursion}
 use Rattle.std.proofs.lemmas.Bool.{cond-true, cond-false, eq-eqb, ne_eqb, cases_eq, and_from, and_left, and_right}
 use Rattle.protocol.specs.Actions.{Way, sends, receives}
 use Rattle.protocol.proofs.Turns.{cons_head, cons_tail, nil_cons}
@@ -30,7 +30,7 @@ pub own_push_other : (m : ℕ) (es : List Event) (e : Event) → m ≢ e.role �
 own_push_other m es e n = own_append m es (e ∷ []) ∙ ap (λ (z : List Event). own m es ++ (z ++ [])) (mine_other m e n) ∙ append-nil (own m es)
 
 -- a role that is not on the sheet has no events
-pub own_unknown : (n m : ℕ) → n ≤ m → (es : List Event) → All (λ e. e.role < n) es → own m es ≡ []
+pub own_unknown : (n m : ℕ) → n ≤ m → (es : List Event) → AllByRecursion (λ e. e.role < n) es → own m es ≡ []
 own_unknown n m l [] k = refl
 own_unknown n m l (e ∷ es) k = rw (mine_other m e (λ q. let z : e.role < n = k.0 in omega arith)) (own_unknown n m l es k.1)
 

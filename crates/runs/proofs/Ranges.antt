@@ -1,6 +1,6 @@
 -- The events of a run name what the sheet has.
 use Rattle.std.proofs.Common.{◌≡◌, ℕ, ◌<◌, List, [], ◌∷◌, ◌++◌, length, sym, refl, ◌∙◌, subst, append_assoc}
-use Rattle.std.specs.List.{AllByRecursion as All}
+use Rattle.std.specs.List.{AllByRecursion}
 use Rattle.sheet.specs.Model.{Sheet}
 use Rattle.sheet.specs.Valid.{Valid}
 use Rattle.protocol.specs.Sets.{Start}
@@ -30,7 +30,7 @@ last_in_range sh book valid o d es e r =
     }
 
 -- what holds of the last event of every beginning holds of all
-all_from_fronts : (P : Event → Type 0) (before es : List Event) → ((front : List Event) (e : Event) (back : List Event) → before ++ es ≡ front ++ (e ∷ back) → P e) → All P es
+all_from_fronts : (P : Event → Type 0) (before es : List Event) → ((front : List Event) (e : Event) (back : List Event) → before ++ es ≡ front ++ (e ∷ back) → P e) → AllByRecursion P es
 all_from_fronts P before [] each = tt
 all_from_fronts P before (e ∷ es) each =
     (each before e es refl, all_from_fronts P (before ++ (e ∷ [])) es (λ front x back q. each front x back (sym (append_assoc before (e ∷ []) es) ∙ q)))

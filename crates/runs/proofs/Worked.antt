@@ -1,7 +1,7 @@
 -- The examples, by computation.
 use Rattle.std.proofs.Common.{◌≡◌, ℕ, zero, suc, ◌<◌, ◌≤◌, true, ltb, ◌⊎◌, List, [], ◌∷◌, ◌++◌, length, Some, None, sym, refl, ap, ◌∙◌, subst, inl, inr, arith}
 use mathlib.Core.List.{Memᴰ}
-use Rattle.std.specs.List.{AllByRecursion as All}
+use Rattle.std.specs.List.{AllByRecursion}
 use Rattle.sheet.specs.Model.{Sheet}
 use Rattle.sheet.specs.Encode.{encode}
 use Rattle.sheet.specs.Decode.{table}
@@ -101,7 +101,7 @@ short_leads : PathFrom oven 0 short_path
 short_leads = (record { branches = branch 0 1 255 0 3 ∷ []; stands = refl; among = Memᴰ.head refl }, refl, tt)
 
 -- what every role follows is the third and the fourth point
-on_some_path : (sh : Sheet) (es : List Event) → All (λ e. e.role < length sh.roles) es → (path : List Place) → PathFrom sh 0 path → (o : ℕ) → ((m : ℕ) → Follows windows o (own m es) (share m path)) → TimelyOnSomePath sh windows o es
+on_some_path : (sh : Sheet) (es : List Event) → AllByRecursion (λ e. e.role < length sh.roles) es → (path : List Place) → PathFrom sh 0 path → (o : ℕ) → ((m : ℕ) → Follows windows o (own m es) (share m path)) → TimelyOnSomePath sh windows o es
 on_some_path sh es known path leads o f = record {
   third = record { known = known; path = path; leads = leads; shares = λ m. beginning windows o (own m es) (share m path) (f m) };
   clocks = λ m. timely windows o (own m es) (share m path) (f m);
@@ -118,7 +118,7 @@ run_from sh o d es ticks channels t = record {
   clocks = t.clocks;
 }
 
-heated_known : All (λ e. e.role < length oven.roles) heated
+heated_known : AllByRecursion (λ e. e.role < length oven.roles) heated
 heated_known = omega arith
 
 heated_follows : (m : ℕ) → Follows windows 100 (own m heated) (share m whole_path)
@@ -388,7 +388,7 @@ ticks_lead : (n : ℕ) → PathFrom ticker 0 (ticks n)
 ticks_lead zero = tt
 ticks_lead (suc n) = (record { branches = branch 0 0 255 255 0 ∷ []; stands = refl; among = Memᴰ.head refl }, refl, ticks_lead n)
 
-ticks_known : (n : ℕ) → All (λ e. e.role < length ticker.roles) (sendings n)
+ticks_known : (n : ℕ) → AllByRecursion (λ e. e.role < length ticker.roles) (sendings n)
 ticks_known zero = tt
 ticks_known (suc n) = (omega arith, ticks_known n)
 
@@ -503,7 +503,7 @@ untold_steady (suc (suc zero)) l ls f = record {
 }
 untold_steady (suc (suc (suc m))) l ls f = absurd (omega arith)
 
-declined_known : All (λ e. e.role < length untold.roles) declined
+declined_known : AllByRecursion (λ e. e.role < length untold.roles) declined
 declined_known = omega arith
 
 declined_follows : (m : ℕ) → Follows windows 0 (own m declined) (share m (no_place ∷ []))

@@ -1,6 +1,6 @@
 -- Meaning: sheets and lists of events written out, and what is so of them.
 use Rattle.std.specs.Prelude.{ℕ, zero, suc, ◌<◌, ◌≤◌, List, [], ◌∷◌, length, Some, None}
-use Rattle.std.specs.List.{AllByRecursion as All}
+use Rattle.std.specs.List.{AllByRecursion}
 use Rattle.sheet.specs.declared.branch.Branch.{Branch}
 use Rattle.sheet.specs.Model.{Sheet, ended, exchange}
 use Rattle.sheet.specs.Valid.{Valid}
@@ -71,7 +71,7 @@ heating = event 0 0 1 0 103 ∷ event 1 1 0 0 105 ∷ []
 
 -- the third point alone
 pub record OnSomePath (sh : Sheet) (es : List Event) : Type 0 where
-  pub known : All (λ e. e.role < length sh.roles) es
+  pub known : AllByRecursion (λ e. e.role < length sh.roles) es
   pub path : List Place
   pub leads : PathFrom sh 0 path
   pub shares : (m : ℕ) → Beginning (own m es) (share m path)

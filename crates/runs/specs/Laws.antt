@@ -1,6 +1,6 @@
 -- Meaning: the theorems on runs and monitors.
 use Rattle.std.specs.Prelude.{◌≡◌, ℕ, ◌-◌, ◌<◌, ◌≤◌, ◌≢◌, ◌⊎◌, ◌↔◌, List, [], ◌∷◌, ◌++◌, map, length, Some, None, Option}
-use Rattle.std.specs.List.{AllByRecursion as All}
+use Rattle.std.specs.List.{AllByRecursion}
 use Rattle.sheet.specs.Model.{Sheet}
 use Rattle.sheet.specs.Valid.{Valid}
 use Rattle.protocol.specs.Places.{Place}
@@ -136,7 +136,7 @@ pub record InRange (sh : Sheet) (e : Event) : Type 0 where
 
 -- no run of a valid sheet has any other event
 abbrev pub RunsInRange : Book → Type 0
-RunsInRange book = (sh : Sheet) → Valid sh → (opening depth : ℕ) (es : List Event) → Run sh book opening depth es → All (InRange sh) es
+RunsInRange book = (sh : Sheet) → Valid sh → (opening depth : ℕ) (es : List Event) → Run sh book opening depth es → AllByRecursion (InRange sh) es
 
 -- The lists of events that a monitor passes, one after the other, are exactly the runs.
 abbrev pub PassedAreRuns : Book → Type 0

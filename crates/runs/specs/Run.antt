@@ -1,7 +1,7 @@
 -- Meaning: a run of a sheet. For a sheet, a time book, an opening tick and a depth, a list of events is a run exactly
 -- when the four points hold. Nothing here speaks of a monitor.
 use Rattle.std.specs.Prelude.{◌≡◌, ℕ, ◌+◌, ◌-◌, ◌<◌, ◌≤◌, cond, ◌⊎◌, List, [], ◌∷◌, ◌++◌, map, length}
-use Rattle.std.specs.List.{AllByRecursion as All}
+use Rattle.std.specs.List.{AllByRecursion}
 use Rattle.sheet.specs.Model.{Sheet}
 use Rattle.protocol.specs.Places.{Place}
 use Rattle.protocol.specs.Actions.{Timing, Action}
@@ -71,7 +71,7 @@ pub record Run (sh : Sheet) (book : Book) (opening depth : ℕ) (es : List Event
   -- second point
   pub channels : Channels depth es
   -- third point: only roles of the sheet act; for some path, every role's events are the beginning of its share
-  pub known : All (λ e. e.role < length sh.roles) es
+  pub known : AllByRecursion (λ e. e.role < length sh.roles) es
   pub path : List Place
   pub leads : PathFrom sh 0 path
   pub shares : (m : ℕ) → Beginning (own m es) (share m path)
