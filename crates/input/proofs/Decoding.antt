@@ -1,8 +1,8 @@
 -- The events in bytes.
-use Rattle.std.proofs.Common.{◌≡◌, ℕ, ◌+◌, ◌*◌, ◌%◌, ◌<◌, ◌≤◌, List, [], ◌∷◌, ◌++◌, length, get_or, drop, sym, refl, ap, ◌∙◌, subst, arith}
+use Rattle.std.proofs.Common.{◌≡◌, ℕ, ◌%◌, ◌<◌, ◌≤◌, List, [], ◌∷◌, ◌++◌, length, get_or, drop, sym, refl, ap, ◌∙◌, subst, arith}
 use Rattle.std.specs.List.{flat_map, AllByRecursion}
 use Rattle.events.specs.declared.event.Event.{Event}
-use Rattle.input.specs.Bytes.{four, event_bytes, Ranged}
+use Rattle.input.specs.Bytes.{event_bytes, Ranged}
 use Rattle.input.specs.Events.{tick_of, events_in}
 use Rattle.input.proofs.Halves.{four_back, four_is}
 

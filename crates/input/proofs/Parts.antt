@@ -1,10 +1,10 @@
 -- An input and its parts.
-use Rattle.std.proofs.Common.{◌≡◌, ℕ, ◌%◌, ◌^◌, ◌<◌, ◌≤◌, List, [], ◌∷◌, ◌++◌, length, sym, refl, ap, ◌∙◌, subst, arith}
+use Rattle.std.proofs.Common.{◌≡◌, ℕ, ◌%◌, ◌^◌, ◌<◌, ◌≤◌, List, [], ◌∷◌, ◌++◌, length, sym, ap, ◌∙◌, subst}
 use Rattle.std.specs.List.{flat_map, AllByRecursion}
 use Rattle.events.specs.declared.event.Event.{Event}
-use Rattle.input.specs.Bytes.{sized, four, event_bytes, Ranged}
+use Rattle.input.specs.Bytes.{sized, four, event_bytes}
 use Rattle.input.specs.Events.{events_in}
-use Rattle.input.specs.Laid.{input_bytes, Laid}
+use Rattle.input.specs.Laid.{Laid}
 use Rattle.input.proofs.Halves.{sized_same, four_same}
 use Rattle.input.proofs.Decoding.{events_back, events_whole, events_are}
 

@@ -1,7 +1,7 @@
 -- A role has a part exactly when its sets are found without a fault.
-use Rattle.std.proofs.Common.{◌≡◌, ℕ, zero, suc, ◌+◌, ◌-◌, ◌<◌, ◌≤◌, Bool, true, false, cond, eqb, ltb, ◌⊎◌, List, [], ◌∷◌, ◌++◌, map, length, get_or, is_some, Some, None, Decides, Option, sym, refl, ap, ◌∙◌, subst, inl, inr, ⊎_elim, arith}
+use Rattle.std.proofs.Common.{◌≡◌, ℕ, zero, suc, ◌+◌, ◌<◌, ◌≤◌, true, false, cond, eqb, ltb, ◌⊎◌, List, [], ◌∷◌, ◌++◌, map, length, get_or, is_some, Some, None, Decides, Option, sym, refl, ap, ◌∙◌, subst, inl, inr, arith}
 use Rattle.std.proofs.lemmas.List.{length-map, get_or-map, length_push, get_or_append_left, get_or_push}
-use Rattle.std.proofs.lemmas.Bool.{cases_Bool, cases_eq, cases_lt, cond-true, cond-false, eq-eqb, ne_eqb, eqb-true, eqb-false, lt-ltb, le-ltb, ltb-true, ltb-false, both_ways}
+use Rattle.std.proofs.lemmas.Bool.{cases_Bool, cases_eq, cases_lt, cond-true, cond-false, eqb-true, eqb-false, lt-ltb, le-ltb}
 use Rattle.sheet.specs.Model.{Sheet}
 use Rattle.sheet.specs.Valid.{Valid}
 use Rattle.protocol.specs.Actions.{Action}
@@ -16,14 +16,14 @@ use Rattle.parting.specs.Masks.{has, In}
 use Rattle.parting.specs.Spread.{spread}
 use Rattle.parting.specs.View.{places}
 use Rattle.parting.specs.Judge.{in_set, first_with, first_failing_point}
-use Rattle.parting.specs.Family.{View, view_of, ends, start_set, successor, position, entered, label_entered, followed, Found, sets, stopped, visited, explored, family_of, unless, found_or, fault_of_point}
+use Rattle.parting.specs.Family.{View, view_of, ends, start_set, successor, position, entered, label_entered, followed, Found, sets, stopped, visited, explored, family_of, fault_of_point}
 use Rattle.parting.proofs.Entering.{entered_known, entered_full, entered_new}
 use Rattle.parting.proofs.Following.{followed_some, followed_none}
-use Rattle.parting.proofs.Likeness.{Within, successor_within, after_within, sound_like}
+use Rattle.parting.proofs.Likeness.{Within, successor_within, sound_like}
 use Rattle.parting.proofs.Pigeons.{pigeons}
 use Rattle.parting.proofs.Same.{decided_same}
 use Rattle.parting.proofs.Soundness.{Small, judged_sound, sound_judged}
-use Rattle.parting.proofs.Successors.{start_decides, start_small, successor_decides, successor_small, labelled_led, unlabelled, Reached, start_reached, successor_reached}
+use Rattle.parting.proofs.Successors.{start_decides, start_small, successor_decides, successor_small, unlabelled, Reached, start_reached, successor_reached}
 use Rattle.parting.proofs.Unique.{good_branch, turn_label}
 
 -- a set stands among those found

@@ -1,9 +1,9 @@
 -- What the bits of a mask say.
-use Rattle.std.proofs.Common.{◌≡◌, ℕ, zero, suc, ◌+◌, ◌-◌, ◌*◌, ◌/◌, ◌%◌, ◌^◌, ◌<◌, ◌≤◌, max, Bool, true, false, ◌||◌, eqb, ◌≢◌, ◌⊎◌, sym, refl, ap, ◌∙◌, subst, ap₂, inl, inr, arith}
+use Rattle.std.proofs.Common.{◌≡◌, ℕ, suc, ◌+◌, ◌-◌, ◌/◌, ◌%◌, ◌^◌, ◌<◌, max, Bool, false, ◌||◌, eqb, ◌≢◌, ◌⊎◌, sym, ap, ◌∙◌, subst, inl, inr, arith}
 use native.Mathlib.Nat.{zero-div, div_self, div-eq_of_lt}
-use lib.Bits.{bit_or, or_shr, or_step, or_zero_l}
+use lib.Bits.{bit_or, or_shr, or_step}
 use Rattle.std.proofs.lemmas.Nat.{pow_pos, pow-add, shl-shr, pow_below}
-use Rattle.std.proofs.lemmas.Bool.{eq-eqb, ne_eqb, eqb-true, eqb-false, cases_eq, cases_order}
+use Rattle.std.proofs.lemmas.Bool.{eq-eqb, ne_eqb, cases_eq, cases_order}
 use Rattle.parting.specs.Masks.{has, add}
 
 pub has_none : (s : ℕ) → has 0 s ≡ false

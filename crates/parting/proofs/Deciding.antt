@@ -1,31 +1,20 @@
 -- The tests of judging decide the points of soundness.
-use Rattle.std.proofs.Common.{◌≡◌, ℕ, zero, suc, ◌<◌, Bool, true, false, cond, not, ◌&&◌, ◌||◌, eqb, ◌≢◌, ◌⊎◌, List, [], ◌∷◌, ◌++◌, map, length, get_or, Some, None, Decides, filter, Option, sym, refl, ap, ◌∙◌, subst, inl, inr, arith}
+use Rattle.std.proofs.Common.{◌≡◌, ℕ, ◌<◌, Bool, true, false, ◌&&◌, eqb, ◌⊎◌, List, [], ◌∷◌, Some, None, Decides, Option, sym, refl, ap, ◌∙◌, subst, inl, inr, arith}
 use mathlib.Core.Bool.{beq}
 use mathlib.Core.List.{Memᴰ}
-use Rattle.std.specs.List.{AllByRecursion}
-use Rattle.std.proofs.lemmas.Bool.{cases_Bool, cases_eq, and_parts, and_from, eq-eqb, eqb-true, eqb-false, or_cases, or_left, or_right, false≢true, both_ways, cond-true, cond-false, not-true, not_from_false, not_from_true}
+use Rattle.std.proofs.lemmas.Bool.{cases_Bool, eq-eqb, eqb-true, or_cases, or_left, or_right, false≢true, both_ways, cond-true, cond-false}
 use Rattle.std.proofs.lemmas.Bool.Decides.{Decides-eqb, Decides-and, Decides-like, Decides-below_and, same_from_decides}
-use Rattle.sheet.specs.Model.{Sheet}
-use Rattle.protocol.specs.Places.{Place, Has}
 use Rattle.protocol.specs.Actions as meant
 use Rattle.protocol.specs.Actions.{Action, Timing, turn}
-use Rattle.protocol.specs.Sets.{Step, Acts}
-use Rattle.protocol.specs.Sound.{OneSide, SameOffer, NoClash, Reaches, now, later, Told, Sound}
 use Rattle.parting.specs.declared.act.Act.{Act}
 use Rattle.parting.specs.declared.act.Way.{Way}
 use Rattle.parting.specs.declared.act.Way.TheVariants.{Sends, Receives}
-use Rattle.parting.specs.declared.edge.Edge.{Edge}
-use Rattle.parting.specs.declared.point.Point.{Point}
-use Rattle.parting.specs.declared.point.Point.TheVariants.{Crossed, Offer, Clash, Untold}
-use Rattle.parting.specs.Masks.{has, In, gather}
-use Rattle.parting.specs.Spread.{Reach, start, along, spread}
-use Rattle.parting.specs.View.{places, acts, back_edge, acting_states_of, leading, way_of, action_of}
-use Rattle.parting.specs.Judge.{in_set, every, every_below, sends, is_same_side, is_one_sided, first_with, is_same_timing, agrees, unclashed, labels_of_state, offers, is_same_labels, is_same_offer, is_unclashed_list, is_led_from, told, is_told_if_acting, first_failing_point}
+use Rattle.parting.specs.Masks.{has, In}
+use Rattle.parting.specs.View.{way_of, action_of}
+use Rattle.parting.specs.Judge.{every_below, sends, is_same_side, is_one_sided, first_with, is_same_timing, agrees, unclashed, labels_of_state, offers, is_same_labels}
 use Rattle.parting.proofs.Bits.{has_none}
-use Rattle.parting.proofs.Gathering.{gather_to, gathered, gather_none, every_decides, kept_from, kept_to}
+use Rattle.parting.proofs.Gathering.{gather_to, gathered, gather_none, every_decides}
 use Rattle.parting.proofs.Same.{same_masks}
-use Rattle.parting.proofs.Spreading.{spread_decides}
-use Rattle.parting.proofs.Viewing.{cons_head, nil_cons, has_from, has_to, act_step, step_act}
 
 -- ways, timings
 beq_decides : (a b : Bool) → Decides (beq a b) (a ≡ b)

@@ -1,9 +1,8 @@
 -- Decoding a sheet into its transitions.
-use Rattle.std.proofs.Common.{◌≡◌, ℕ, zero, suc, ◌+◌, ◌-◌, ◌*◌, ◌<◌, ◌≤◌, Bool, true, false, cond, ltb, ◌⊎◌, List, [], ◌∷◌, ◌++◌, map, length, get_or, take, drop, set, is_some, Some, None, Option, sym, refl, ap, ◌∙◌, subst, inl, inr, ⊎_elim, arith, length-append}
+use Rattle.std.proofs.Common.{◌≡◌, ℕ, suc, ◌+◌, ◌*◌, ◌<◌, ◌≤◌, false, List, [], ◌∷◌, ◌++◌, map, length, get_or, take, drop, set, is_some, Some, None, Option, sym, refl, ap, ◌∙◌, ⊎_elim, arith}
 use Rattle.std.specs.Option.{option_map}
-use Rattle.std.specs.List.{AllByRecursion}
 use Rattle.std.proofs.ByRecursion.{All-get_or}
-use Rattle.std.proofs.lemmas.List.{append_assoc, append-nil, at_drop_more, at_drop_all, length-map, length-take-le, take_more_set, map_push, get_or_past}
+use Rattle.std.proofs.lemmas.List.{append_assoc, append-nil, at_drop_more, at_drop_all, length-map, take_more_set, map_push, get_or_past}
 use Rattle.std.proofs.lemmas.Bool.{cases_lt, cond-true, cond-false, lt-ltb, le-ltb}
 use Rattle.sheet.specs.declared.branch.Branch.{Branch}
 use Rattle.sheet.specs.Encode.{body}
@@ -21,7 +20,7 @@ use Rattle.reading.specs.Handing.{seen, handed, Part}
 use Rattle.protocol.specs.Places.{Place}
 use Rattle.parting.specs.declared.transition.Transition.{Transition}
 use Rattle.parting.specs.Graph.{body_in}
-use Rattle.parting.specs.View.{make_place, place_of, places_of, places_from, places}
+use Rattle.parting.specs.View.{make_place, place_of, places_of, places_from}
 
 -- the state's bytes are what the sheet hands out
 got : (r : Option Piece) (p : Part) → option_map seen r ≡ Some p → p.kind ≡ kind.State → body_in r ≡ p.bytes

@@ -1,12 +1,12 @@
 -- Exploring a role's sets: what each turn keeps.
-use Rattle.std.proofs.Common.{◌≡◌, ℕ, zero, suc, ◌+◌, ◌-◌, ◌<◌, ◌≤◌, Bool, true, false, cond, ◌⊎◌, List, [], ◌∷◌, ◌++◌, length, get_or, take, drop, Some, None, Option, sym, refl, ap, ◌∙◌, subst, inl, inr, ⊎_elim, arith}
+use Rattle.std.proofs.Common.{◌≡◌, ℕ, suc, ◌+◌, ◌-◌, ◌<◌, ◌≤◌, Bool, true, false, List, [], ◌∷◌, length, get_or, take, drop, Some, sym, refl, ap, ◌∙◌, ⊎_elim, arith}
 use Rattle.std.proofs.lemmas.List.{drop_more, drop_all, length-take-le}
-use Rattle.std.proofs.lemmas.Bool.{cond-true, cond-false, cases_lt, lt-ltb, le-ltb}
+use Rattle.std.proofs.lemmas.Bool.{cases_lt, lt-ltb, le-ltb}
 use Rattle.queue.specs.declared.queue.Queue.{Queue}
 use Rattle.queue.specs.Held.{inside, slots_of}
 use Rattle.parting.specs.declared.fault.PartFault.{PartFault}
 use Rattle.parting.specs.declared.found.Sets.{Sets}
-use Rattle.parting.specs.Family.{View, outcome, entered, Found, sets, stopped, visited, explored, family_of, start_set}
+use Rattle.parting.specs.Family.{View, outcome, entered, sets, stopped, visited, explored, family_of, start_set}
 use Rattle.parting.specs.Masks.{add}
 use Rattle.parting.specs.Sets.{found_in, Ready, Waiting}
 use Rattle.parting.specs.Spread.{spread}

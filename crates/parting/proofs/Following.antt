@@ -1,11 +1,11 @@
 -- Following a set, one label after the other.
-use Rattle.std.proofs.Common.{◌≡◌, ℕ, zero, suc, ◌+◌, ◌-◌, ◌<◌, ◌≤◌, Bool, true, false, cond, List, [], ◌∷◌, Some, None, filter, Option, sym, refl, ap, ◌∙◌, subst, arith}
+use Rattle.std.proofs.Common.{◌≡◌, ℕ, suc, ◌+◌, ◌-◌, ◌<◌, ◌≤◌, Bool, true, false, cond, List, [], ◌∷◌, Some, None, filter, ap, ◌∙◌, arith}
 use Rattle.std.specs.List.{AllByRecursion}
 use Rattle.parting.specs.declared.act.Act.{Act}
 use Rattle.parting.specs.declared.edge.Edge.{Edge}
 use Rattle.parting.specs.declared.fault.PartFault.TheVariants.{Sets}
 use Rattle.parting.specs.declared.point.Point.{Point}
-use Rattle.parting.specs.Family.{View, label_entered, followed, Found, sets, stopped, fault_of_point, visited}
+use Rattle.parting.specs.Family.{View, label_entered, followed, sets, stopped, fault_of_point, visited}
 use Rattle.parting.specs.Judge.{in_set, first_failing_point}
 
 module _ (silent : List Edge) (as' : List Act) where

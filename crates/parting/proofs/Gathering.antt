@@ -1,10 +1,10 @@
 -- What a mask that gathers from a list has.
-use Rattle.std.proofs.Common.{◌≡◌, ℕ, zero, suc, ◌<◌, Bool, true, false, cond, not, ◌&&◌, ◌||◌, eqb, ◌⊎◌, List, [], ◌∷◌, Decides, filter, sym, refl, ap, ◌∙◌, subst, inl, inr, arith}
+use Rattle.std.proofs.Common.{◌≡◌, ℕ, Bool, true, false, cond, ◌&&◌, eqb, ◌⊎◌, List, [], ◌∷◌, Decides, filter, sym, refl, ap, ◌∙◌, subst, inl, inr}
 use mathlib.Core.List.{Memᴰ}
 use Rattle.std.specs.List.{AllByRecursion}
-use Rattle.std.proofs.lemmas.Bool.{eq-eqb, eqb-true, cases_Bool, cases_eq, cond-true, cond-false, or_cases, or_left, or_right, and_parts, and_from, false≢true, both_ways}
+use Rattle.std.proofs.lemmas.Bool.{eq-eqb, eqb-true, cases_Bool, cond-true, cond-false, or_cases, or_left, or_right, and_parts, and_from, false≢true}
 use Rattle.parting.specs.Masks.{has, add, In, gather}
-use Rattle.parting.specs.Judge.{every, every_below}
+use Rattle.parting.specs.Judge.{every}
 use Rattle.parting.proofs.Bits.{has_add, has_none}
 
 module _ {X : Type 0} (test : X → Bool) (f : X → ℕ) where

@@ -1,10 +1,8 @@
 -- What is said of a set of states goes by its states alone.
-use Rattle.std.proofs.Common.{◌≡◌, ℕ, List, [], ◌∷◌, ◌++◌, sym, refl, ap, ◌∙◌, subst}
+use Rattle.std.proofs.Common.{ℕ, List, [], ◌∷◌, ◌++◌}
 use Rattle.sheet.specs.Model.{Sheet}
-use Rattle.protocol.specs.Places.{Place, Has}
-use Rattle.protocol.specs.Actions.{Action}
-use Rattle.protocol.specs.Sets.{Silent, here, on, Step, Acts, Led, Successor, After, Followed}
-use Rattle.protocol.specs.Sound.{Reaches, Sound}
+use Rattle.protocol.specs.Sets.{Silent, here, on, Led, Successor, After, Followed}
+use Rattle.protocol.specs.Sound.{Sound}
 
 abbrev pub Within : (ℕ → Type 0) → (ℕ → Type 0) → Type 0
 Within X Y = (s : ℕ) → X s → Y s

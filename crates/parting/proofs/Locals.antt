@@ -1,24 +1,21 @@
 -- The table of a role's sets is its local protocol.
-use Rattle.std.proofs.Common.{◌≡◌, ℕ, zero, suc, ◌+◌, ◌<◌, ◌≤◌, ◌⊎◌, List, [], ◌∷◌, length, get_or, Some, None, Decides, Option, sym, refl, ap, ◌∙◌, subst, inl, inr, arith}
+use Rattle.std.proofs.Common.{◌≡◌, ℕ, ◌<◌, ◌≤◌, ◌⊎◌, List, [], ◌∷◌, length, get_or, Some, None, Decides, Option, sym, refl, ap, ◌∙◌, subst, inl, inr, arith}
 use mathlib.Core.List.{Memᴰ}
 use Rattle.std.proofs.lemmas.Bool.{cases_lt}
 use Rattle.sheet.specs.Model.{Sheet}
 use Rattle.sheet.specs.Valid.{Valid}
-use Rattle.protocol.specs.Actions as meant
 use Rattle.protocol.specs.Actions.{Action, Timing}
 use Rattle.protocol.specs.Sets.{Step, Acts, Start, Led, Successor}
 use Rattle.parting.specs.declared.act.Act.{Act}
 use Rattle.parting.specs.declared.act.Way.{Way}
 use Rattle.parting.specs.declared.act.Way.TheVariants.{Sends, Receives}
-use Rattle.parting.specs.declared.local.LocalKind.{LocalKind}
 use Rattle.parting.specs.declared.local.LocalSet.{LocalSet}
-use Rattle.parting.specs.declared.local.Move.{Move}
 use Rattle.parting.specs.declared.local.Part.{Part}
 use Rattle.parting.specs.Masks.{has, In}
 use Rattle.parting.specs.View.{places, way_of, action_of}
 use Rattle.parting.specs.Judge.{in_set, first_with}
-use Rattle.parting.specs.Family.{View, view_of, start_set, successor, position}
-use Rattle.parting.specs.Tables.{kind_by, local_kind, moved, move_under, Entry, Table}
+use Rattle.parting.specs.Family.{View, view_of, successor, position}
+use Rattle.parting.specs.Tables.{kind_by, local_kind, moved, move_under, Table}
 use Rattle.parting.specs.Local.{Always, KindIs, set_of, Leads, MoveIs, LocalOf}
 use Rattle.protocol.specs.Sound.{Sound}
 use Rattle.parting.proofs.Acceptance.{Kept, Stands, position_stands, position_absent, label_known}

@@ -1,5 +1,5 @@
 -- Roles, one after the other.
-use Rattle.std.proofs.Common.{◌≡◌, ℕ, zero, suc, ◌+◌, ◌-◌, ◌<◌, ◌≤◌, ◌⊎◌, List, map, length, get_or, set, Some, None, Option, sym, refl, ap, ◌∙◌, subst, inl, inr, arith}
+use Rattle.std.proofs.Common.{◌≡◌, ℕ, suc, ◌+◌, ◌-◌, ◌<◌, ◌≤◌, ◌⊎◌, List, length, get_or, set, Some, None, sym, ap, ◌∙◌, subst, inl, inr, arith}
 use Rattle.std.proofs.lemmas.List.{get_or-set_same, get_or-set_other}
 use Rattle.std.proofs.lemmas.Bool.{cases_eq}
 use Rattle.sheet.specs.Model.{Sheet}
@@ -7,7 +7,7 @@ use Rattle.sheet.specs.Valid.{Valid}
 use Rattle.protocol.specs.Accepted.{HasPart, Accepted}
 use Rattle.parting.specs.declared.fault.PartFault.{PartFault}
 use Rattle.parting.specs.declared.local.Part.{Part}
-use Rattle.parting.specs.Family.{view_of, Found, sets, stopped}
+use Rattle.parting.specs.Family.{view_of, sets, stopped}
 use Rattle.parting.specs.Local.{LocalOf}
 use Rattle.parting.specs.Parts.{Parted, family, fault_from, part_fault}
 use Rattle.parting.specs.View.{places}

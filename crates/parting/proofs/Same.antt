@@ -1,6 +1,6 @@
 -- Masks with the same bits are the same number.
-use Rattle.std.proofs.Common.{◌≡◌, ℕ, zero, suc, ◌+◌, ◌*◌, ◌/◌, ◌%◌, ◌^◌, ◌<◌, ◌≤◌, Bool, true, false, eqb, Decides, sym, refl, ap, ◌∙◌, pow-suc, div-one, arith, pow_mono}
-use Rattle.std.proofs.lemmas.Nat.{shr-shr, div_below}
+use Rattle.std.proofs.Common.{◌≡◌, ℕ, zero, suc, ◌+◌, ◌/◌, ◌%◌, ◌^◌, ◌<◌, ◌≤◌, eqb, Decides, sym, ap, ◌∙◌, pow-suc, div-one, arith, pow_mono}
+use Rattle.std.proofs.lemmas.Nat.{shr-shr}
 use Rattle.std.proofs.lemmas.Bool.Decides.{nat_tests, same_from_decides}
 use Rattle.parting.specs.Masks.{has}
 

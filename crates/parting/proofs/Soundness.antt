@@ -1,26 +1,25 @@
 -- A set passes the judging exactly when it is sound.
-use Rattle.std.proofs.Common.{◌≡◌, ℕ, zero, suc, ◌<◌, ◌≤◌, Bool, true, false, cond, not, ◌&&◌, ◌||◌, eqb, ◌⊎◌, List, [], ◌∷◌, map, length, Some, None, Decides, filter, Option, sym, refl, ap, ◌∙◌, subst, inl, inr, arith}
+use Rattle.std.proofs.Common.{◌≡◌, ℕ, ◌<◌, Bool, true, false, not, ◌&&◌, ◌||◌, ◌⊎◌, List, [], ◌∷◌, map, Some, None, Decides, Option, sym, refl, ap, ◌∙◌, subst, inl, inr, arith}
 use mathlib.Core.List.{Memᴰ}
-use Rattle.std.proofs.lemmas.Bool.{cases_Bool, and_parts, and_from, or_cases, or_left, or_right, false≢true, both_ways, cond-true, cond-false, not-true, not-false, not_from_false, not_from_true}
+use Rattle.std.proofs.lemmas.Bool.{cases_Bool, and_parts, and_from, or_cases, or_left, or_right, both_ways, cond-true, cond-false, not-true, not_from_false}
 use Rattle.sheet.specs.Model.{Sheet}
 use Rattle.sheet.specs.Valid.{Valid}
-use Rattle.protocol.specs.Places.{Place, Has}
-use Rattle.protocol.specs.Actions as meant
-use Rattle.protocol.specs.Actions.{Action, Timing}
+use Rattle.protocol.specs.Places.{Place}
+use Rattle.protocol.specs.Actions.{Action}
 use Rattle.protocol.specs.Sets.{Step, Acts}
 use Rattle.protocol.specs.Sound.{OneSide, SameOffer, NoClash, Reaches, now, later, Told, Sound}
 use Rattle.parting.specs.declared.act.Act.{Act}
 use Rattle.parting.specs.declared.edge.Edge.{Edge}
 use Rattle.parting.specs.declared.point.Point.{Point}
 use Rattle.parting.specs.declared.point.Point.TheVariants.{Crossed, Offer, Clash, Untold}
-use Rattle.parting.specs.Masks.{has, In, gather}
-use Rattle.parting.specs.Spread.{Reach, start, along, spread}
+use Rattle.parting.specs.Masks.{has, In}
+use Rattle.parting.specs.Spread.{Reach, start, along}
 use Rattle.parting.specs.View.{places, acts, back_edge, acting_states_of, leading, action_of}
-use Rattle.parting.specs.Judge.{in_set, sends, is_one_sided, unclashed, is_same_labels, is_same_offer, is_unclashed_list, is_led_from, told, is_told_if_acting, first_failing_point}
+use Rattle.parting.specs.Judge.{in_set, sends, is_one_sided, unclashed, is_same_labels, is_same_offer, is_unclashed_list, is_led_from, is_told_if_acting, first_failing_point}
 use Rattle.parting.proofs.Deciding.{way_sends, sends_way, way_receives, receives_way, same_way, Sided, Timed, Alike, Found, Pairs, one_from, one_to, unclashed_from, unclashed_to, same_labels_from, same_labels_to, below_from, below_to}
 use Rattle.parting.proofs.Gathering.{gather_to, gathered, kept_from, kept_to}
 use Rattle.parting.proofs.Spreading.{spread_decides}
-use Rattle.parting.proofs.Unique.{good_place, good_branch, same_step}
+use Rattle.parting.proofs.Unique.{same_step}
 use Rattle.parting.proofs.Viewing.{has_from, has_to, act_step, step_act}
 
 -- edges backwards

@@ -1,6 +1,5 @@
 -- The computed sets are the sets: the start, and the successor under a label.
-use Rattle.std.proofs.Common.{◌≡◌, ℕ, zero, suc, ◌+◌, ◌<◌, ◌≤◌, Bool, true, false, cond, ◌||◌, eqb, ◌⊎◌, List, [], ◌∷◌, ◌++◌, length, Some, None, Decides, Option, sym, refl, ap, ◌∙◌, subst, inl, inr, arith}
-use mathlib.Core.List.{Memᴰ}
+use Rattle.std.proofs.Common.{◌≡◌, ℕ, ◌<◌, true, eqb, ◌⊎◌, List, [], ◌∷◌, ◌++◌, Some, None, Decides, Option, sym, ap, ◌∙◌, subst, inl, inr, arith}
 use Rattle.std.proofs.lemmas.Bool.{eq-eqb, eqb-true, or_cases, or_left, false≢true}
 use Rattle.sheet.specs.Model.{Sheet}
 use Rattle.sheet.specs.Valid.{Valid}
@@ -8,18 +7,18 @@ use Rattle.protocol.specs.Places.{Place, Has}
 use Rattle.protocol.specs.Actions.{Action}
 use Rattle.protocol.specs.Sets.{Silent, here, on, Step, Start, Led, Successor, After, Followed}
 use Rattle.parting.specs.declared.act.Act.{Act}
-use Rattle.parting.specs.Masks.{has, add, In, gather}
+use Rattle.parting.specs.Masks.{has, add, In}
 use Rattle.parting.specs.Spread.{spread}
-use Rattle.parting.specs.View.{places, acts, silent_edges, action_of}
+use Rattle.parting.specs.View.{places, action_of}
 use Rattle.parting.specs.Judge.{in_set, first_with}
 use Rattle.parting.specs.Family.{View, view_of, ends, start_set, successor}
 use Rattle.parting.proofs.Bits.{has_add, has_none}
 use Rattle.parting.proofs.Deciding.{first_found, first_act}
 use Rattle.parting.proofs.Gathering.{gather_to, gathered}
-use Rattle.parting.proofs.Likeness.{Within, silent_within, led_within, successor_within, after_push, push_after, followed_push}
+use Rattle.parting.proofs.Likeness.{silent_within, led_within, successor_within, after_push, push_after, followed_push}
 use Rattle.parting.proofs.Soundness.{Small, act_acts, acts_act}
-use Rattle.parting.proofs.Unique.{good_place, good_branch}
-use Rattle.parting.proofs.Viewing.{silent_decides, act_step}
+use Rattle.parting.proofs.Unique.{good_branch}
+use Rattle.parting.proofs.Viewing.{silent_decides}
 
 zero_only : (s : ℕ) → In (add 0 0) s → s ≡ 0
 zero_only s h = go (or_cases (eqb s 0) (has 0 s) (sym (has_add 0 0 s) ∙ h))

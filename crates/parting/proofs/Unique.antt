@@ -1,12 +1,11 @@
 -- In a valid sheet a role has at most one act with a label in a state.
-use Rattle.std.proofs.Common.{◌≡◌, ℕ, zero, suc, ◌<◌, ◌≤◌, ◌⊎◌, List, [], ◌∷◌, length, get_or, sym, refl, ap, ◌∙◌, subst, inl, inr, arith}
+use Rattle.std.proofs.Common.{◌≡◌, ℕ, suc, ◌<◌, ◌≤◌, ◌⊎◌, List, [], ◌∷◌, length, get_or, sym, ap, ◌∙◌, subst, inl, inr, arith}
 use mathlib.Core.List.{Memᴰ}
-use Rattle.std.specs.List.{AllByRecursion}
 use Rattle.std.proofs.ByRecursion.{All-get_or}
 use Rattle.std.proofs.lemmas.List.{get_or_past}
 use Rattle.std.proofs.lemmas.Bool.{cases_lt, cases_order}
 use Rattle.sheet.specs.declared.branch.Branch.{Branch}
-use Rattle.sheet.specs.Model.{State, ended, exchange, Sheet}
+use Rattle.sheet.specs.Model.{ended, exchange, Sheet}
 use Rattle.sheet.specs.Valid.{Valid, GoodState, GoodBranch, GoodExchange, Rising, blank}
 use Rattle.protocol.specs.Places.{Place, Has}
 use Rattle.protocol.specs.Actions.{Action, turn}

@@ -1,5 +1,5 @@
 -- Computed: a role's part, or its fault; and the first fault of all roles.
-use Rattle.std.specs.Prelude.{◌≡◌, ℕ, zero, suc, ◌+◌, ◌<◌, List, length, get_or, Some, None, Option, Result, MatchResult}
+use Rattle.std.specs.Prelude.{◌≡◌, ℕ, zero, suc, ◌+◌, List, length, Some, None, Option, Result, MatchResult}
 use Rattle.sheet.specs.Model.{Sheet}
 use Rattle.parting.specs.declared.fault.PartFault.{PartFault}
 use Rattle.parting.specs.declared.local.Part.{Part}

@@ -1,7 +1,7 @@
 -- Labels by name, through the laws of sameness.
-use Rattle.std.proofs.Common.{◌≡◌, ℕ, ◌+◌, ◌<◌, ◌≤◌, true, List, [], length, get_or, Some, None, Option, sym, refl, ap, ◌∙◌, subst, ⊎_elim}
+use Rattle.std.proofs.Common.{◌≡◌, ℕ, ◌<◌, List, [], get_or, Some, None, Option, sym, ap, ◌∙◌, ⊎_elim}
 use Rattle.std.proofs.lemmas.Bool.{cases_order}
-use Rattle.sheet.specs.Decode.{counts, model, table, cut}
+use Rattle.sheet.specs.Decode.{model}
 use Rattle.sheet.specs.Model.{Name, Sheet}
 use Rattle.sheet.specs.Names.{same}
 use Rattle.sheet.specs.Refuse.{fault}

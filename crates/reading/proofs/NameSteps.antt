@@ -1,5 +1,5 @@
 -- The checks of names, one name at a time.
-use Rattle.std.proofs.Common.{◌≡◌, ℕ, ◌+◌, ◌<◌, ◌≤◌, Bool, true, false, not, List, [], ◌∷◌, ◌++◌, map, length, get_or, Some, None, sym, refl, ap, ◌∙◌}
+use Rattle.std.proofs.Common.{◌≡◌, ℕ, ◌+◌, ◌<◌, ◌≤◌, true, false, List, [], ◌∷◌, ◌++◌, map, length, get_or, Some, None, ap, ◌∙◌}
 use Rattle.std.specs.List.{between}
 use Rattle.std.proofs.lemmas.List.Edits.{between_more}
 use Rattle.std.proofs.lemmas.List.{map_push}
@@ -10,7 +10,7 @@ use Rattle.sheet.specs.declared.span.Span.{Span}
 use Rattle.sheet.specs.Decode.{cut}
 use Rattle.sheet.specs.Model.{Name}
 use Rattle.sheet.specs.Names.{same}
-use Rattle.sheet.specs.Refuse.{among, byte_fault, name_fault, first, unless}
+use Rattle.sheet.specs.Refuse.{among, byte_fault, name_fault}
 use Rattle.reading.specs.Places.{nowhere}
 use Rattle.reading.proofs.Pieces.{between_first}
 

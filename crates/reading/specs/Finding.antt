@@ -1,5 +1,5 @@
 -- Meaning: finding a label by its name.
-use Rattle.std.specs.Prelude.{◌≡◌, ℕ, ◌<◌, true, List, [], length, Some, None, Option, ◌≢◌, slice_index_or}
+use Rattle.std.specs.Prelude.{◌≡◌, ℕ, ◌<◌, true, [], length, Some, None, Option, ◌≢◌, slice_index_or}
 use Rattle.sheet.specs.Model.{Name, Sheet}
 use Rattle.sheet.specs.Names.{same}
 

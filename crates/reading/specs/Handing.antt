@@ -1,6 +1,5 @@
 -- Meaning: what a sheet hands out of its own bytes.
 use Rattle.std.specs.Prelude.{◌≡◌, ℕ, ◌+◌, cond, List, [], length, take, drop, IfSome, Some, None, Option, nat_lt, slice_index_or}
-use Rattle.std.specs.Option.{option_map}
 use Rattle.std.specs.List.{flat_map}
 use Rattle.sheet.specs.declared.counts.Counts.{Counts}
 use Rattle.sheet.specs.Encode.{body, pieces, begin}

@@ -151,7 +151,7 @@ module _ (sh : Sheet) (book : Book) (valid : Valid sh) (steady : AllSteady sh) (
           where
             sets : (m s : ℕ) → m < length sh.roles → (m ≡ e.role) ⊎ (m ≡ e.role → ⊥) → Decides (τ.set m s) (SetAfter sh m (es ++ (e ∷ [])) s)
             sets m s l (inl q) = rw q (set-role s)
-            sets m s l (inr n) = rw (own_push_other m es e n, changes.set-kept m s l n) (k.set m s l)
+            sets m s l (inr n) = rw (own_push_other m es e n, changes.set_kept m s l n) (k.set m s l)
 
     -- an event with which the events are a run passes
     pub run_passes : Run sh book o d (es ++ (e ∷ [])) → Passes sh book d σ e

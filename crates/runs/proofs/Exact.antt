@@ -51,7 +51,7 @@ module _ (sh : Sheet) (σ : Monitor) (e : Event) (a : Action) (set : ℕ → Boo
   changes : Changes sh σ e a changed
   changes = record {
     set = λ s. subst (λ (b : Bool). Decides b (Successor sh e.role (InSet σ e.role) e.label s)) (sym (cond-true (eqb e.role e.role) (set s) (σ.set e.role s) (eq-eqb e.role e.role refl))) (decides s);
-    set-kept = λ m s l n. cond-false (eqb m e.role) (set s) (σ.set m s) (ne_eqb m e.role n);
+    set_kept = λ m s l n. cond-false (eqb m e.role) (set s) (σ.set m s) (ne_eqb m e.role n);
     since = cond-true (eqb e.role e.role) (cond a.timing.reset e.tick (σ.since e.role)) (σ.since e.role) (eq-eqb e.role e.role refl);
     since_kept = λ m l n. cond-false (eqb m e.role) (cond a.timing.reset e.tick (σ.since m)) (σ.since m) (ne_eqb m e.role n);
     channel = λ b c k l. refl;

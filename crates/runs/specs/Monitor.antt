@@ -59,7 +59,7 @@ channel_after channel e receives a b = cond (a == e.partner && b == e.role) (dro
 -- a passed event that is that action takes the monitor from σ to τ
 pub record Changes (sh : Sheet) (σ : Monitor) (e : Event) (a : Action) (τ : Monitor) : Type 0 where
   pub set : (s : ℕ) → Decides (τ.set e.role s) (Successor sh e.role (InSet σ e.role) e.label s)
-  pub set-kept : (m s : ℕ) → m < length sh.roles → m ≢ e.role → τ.set m s ≡ σ.set m s
+  pub set_kept : (m s : ℕ) → m < length sh.roles → m ≢ e.role → τ.set m s ≡ σ.set m s
   pub since : τ.since e.role ≡ cond a.timing.reset e.tick (σ.since e.role)
   pub since_kept : (m : ℕ) → m < length sh.roles → m ≢ e.role → τ.since m ≡ σ.since m
   pub channel : (b c : ℕ) → b < length sh.roles → c < length sh.roles → τ.channel b c ≡ channel_after σ.channel e a.way b c

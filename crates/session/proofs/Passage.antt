@@ -1,15 +1,14 @@
 -- What a pass changes is what the model of a monitor changes, and what it answers is read off the events.
-use Rattle.std.proofs.Common.{◌≡◌, ℕ, ◌-◌, ◌<◌, ◌≤◌, Bool, true, false, cond, eqb, ◌≢◌, ◌⊎◌, List, [], ◌∷◌, ◌++◌, length, get_or, set, Decides, sym, refl, ap, ◌∙◌, subst, inl, inr, arith, get_or-set_other, get_or-set_same}
+use Rattle.std.proofs.Common.{◌≡◌, ℕ, ◌-◌, ◌<◌, ◌≤◌, cond, eqb, ◌≢◌, ◌⊎◌, List, [], ◌∷◌, ◌++◌, length, get_or, set, Decides, sym, ap, ◌∙◌, subst, inl, inr, arith, get_or-set_other, get_or-set_same}
 use Rattle.std.proofs.lemmas.Bool.{cases_eq, cond-true, cond-false, eq-eqb, ne_eqb}
 use Rattle.sheet.specs.Model.{Sheet}
 use Rattle.protocol.specs.Sets.{Successor}
 use Rattle.events.specs.declared.event.Event.{Event}
-use Rattle.events.specs.declared.message.Message.{Message}
 use Rattle.parting.specs.declared.accepted.Accepted.{Accepted}
 use Rattle.parting.specs.Blank.{no_part}
 use Rattle.parting.specs.Masks.{has}
 use Rattle.runs.specs.Events.{direction_of}
-use Rattle.runs.specs.Run.{Book, Run}
+use Rattle.runs.specs.Run.{Book}
 use Rattle.runs.specs.Waiting.{waiting, oldest_tick, under_way}
 use Rattle.runs.specs.Monitor.{Monitor, InSet, Room, Passes, Changes, channel_after}
 use Rattle.runs.specs.Stands.{Stands}
@@ -27,7 +26,7 @@ use Rattle.session.specs.Delivered.{way_of, Delivered}
 use Rattle.session.specs.Kept.{no_record, no_set, record_of, set_at, monitor_of}
 use Rattle.session.specs.Outcomes.{answer_of, Passing}
 use Rattle.session.specs.Watches.{Watches}
-use Rattle.session.proofs.Verdict.{Found, StepIs, part, direction_is, step_passes}
+use Rattle.session.proofs.Verdict.{Found, StepIs, direction_is, step_passes}
 
 -- what a pass leaves in the plain struct
 pub record Leaves (old : Inner) (e : Event) (step : Step) (new : Inner) (answer : ℕ) : Type 0 where
@@ -77,7 +76,7 @@ module _ (sh : Sheet) (book : Book) (opening depth : ℕ) (es : List Event) (acc
     changes : Changes sh σ e f.action τ
     changes = record {
       set = λ x. subst (λ r. Decides (has (set_at accepted e.role r.set).states x) (Successor sh e.role (InSet σ e.role) e.label x)) (sym own_record) (f.leads.successor no_set x);
-      set-kept = λ m x k apart. ap (λ r. has (set_at accepted m r.set).states x) (other_record m apart);
+      set_kept = λ m x k apart. ap (λ r. has (set_at accepted m r.set).states x) (other_record m apart);
       since = ap (λ r. r.since) own_record ∙ ap (λ b. cond b e.tick (record_of old e.role).since) (sym reset_is);
       since_kept = λ m k apart. ap (λ r. r.since) (other_record m apart);
       channel = λ a b ha hb. delivered step.direction s.room l.channels a b ∙ ap (λ x. channel_after (channel old.channels) e x a b) (sym f.way);

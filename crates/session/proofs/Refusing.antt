@@ -1,5 +1,5 @@
 -- A stopped event is none with which the events are a run, and its stop is the first that applies.
-use Rattle.std.proofs.Common.{◌≡◌, ℕ, ◌-◌, ◌⊎◌, List, [], ◌∷◌, ◌++◌, length, Ok, Err, sym, ap, ◌∙◌, subst, inl, inr, arith}
+use Rattle.std.proofs.Common.{◌≡◌, ℕ, ◌-◌, List, length, Err, sym, ap, ◌∙◌, subst, inl, inr, arith}
 use Rattle.sheet.specs.Model.{Sheet}
 use Rattle.events.specs.declared.event.Event.{Event}
 use Rattle.parting.specs.declared.accepted.Accepted.{Accepted}
@@ -10,11 +10,9 @@ use Rattle.runs.specs.Monitor.{Passes, Room}
 use Rattle.events.specs.declared.fault.SessionFault.{SessionFault}
 use Rattle.events.specs.declared.fault.SessionFault.TheVariants.{Book, Depth, Who, What, Back, Turn, Line, Full, Time}
 use Rattle.session.specs.declared.inner.Inner.{Inner}
-use Rattle.session.specs.declared.step.Step.{Step}
-use Rattle.session.specs.Admitted.{Timed, Judged}
+use Rattle.session.specs.Admitted.{Judged}
 use Rattle.session.specs.Kept.{monitor_of}
-use Rattle.session.specs.Outcomes.{Known, Worded, HasTurn, Waits, HasRoom, InRow, Refused, Stopping}
-use Rattle.session.specs.Prepared.{prepared}
+use Rattle.session.specs.Outcomes.{Known, HasTurn, Waits, HasRoom, Refused, Stopping}
 use Rattle.session.specs.Watches.{Watches}
 use Rattle.session.proofs.Passage.{keeps}
 use Rattle.session.proofs.Verdict.{Judgement, judged, not_in_row}

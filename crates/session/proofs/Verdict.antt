@@ -1,10 +1,9 @@
 -- What a session finds of an event is what the sheet says of it.
-use Rattle.std.proofs.Common.{◌≡◌, ℕ, ◌-◌, ◌<◌, ◌≤◌, Bool, true, false, cond, ◌&&◌, ◌||◌, eqb, ltb, leb, ◌≢◌, ◌⊎◌, List, [], ◌∷◌, ◌++◌, length, get_or, Some, None, Ok, Err, Option, Result, sym, refl, ap, ◌∙◌, subst, inl, inr, arith}
-use Rattle.std.proofs.lemmas.Bool.{ltb-true, ltb-false, lt-ltb, le-leb, leb-false, eqb-true, eq-eqb, eqb-false, and_parts, and_from, or_parts, or_cases, leb-true, both_ways, cases_Bool, cond-true, cond-false}
+use Rattle.std.proofs.Common.{◌≡◌, ℕ, ◌-◌, ◌<◌, Bool, true, false, cond, ◌&&◌, ◌||◌, eqb, ltb, leb, ◌⊎◌, List, [], ◌∷◌, length, get_or, Some, None, Ok, Err, Option, Result, sym, refl, ap, ◌∙◌, subst, inl, inr, arith}
+use Rattle.std.proofs.lemmas.Bool.{ltb-true, ltb-false, lt-ltb, leb-false, eqb-true, eq-eqb, eqb-false, and_parts, and_from, or_parts, or_cases, leb-true, both_ways, cond-true}
 use Rattle.sheet.specs.Model.{Sheet}
-use Rattle.protocol.specs.Actions.{Way, sends, receives, Action}
+use Rattle.protocol.specs.Actions.{Action}
 use Rattle.protocol.specs.Paths.{share}
-use Rattle.protocol.specs.Sets.{Acts, Led}
 use Rattle.events.specs.declared.event.Event.{Event}
 use Rattle.events.specs.declared.message.Message.{Message}
 use Rattle.parting.specs.declared.accepted.Accepted.{Accepted}
@@ -17,15 +16,15 @@ use Rattle.parting.specs.Blank.{no_part}
 use Rattle.parting.specs.Local.{Always, KindIs, Leads, MoveIs, LocalOf}
 use Rattle.parting.specs.Masks.{In}
 use Rattle.runs.specs.Events.{direction_of, own}
-use Rattle.runs.specs.Run.{Book, Fits, Admits, timings, last_reset}
+use Rattle.runs.specs.Run.{Book, Fits, timings, last_reset}
 use Rattle.runs.specs.Waiting.{waiting}
 use Rattle.runs.specs.Monitor.{Monitor, InSet, Able, Room, Passes}
-use Rattle.runs.specs.Stands.{SetAfter, last_tick}
+use Rattle.runs.specs.Stands.{SetAfter}
 use Rattle.runs.proofs.AnyPath.{any_path}
 use Rattle.runs.proofs.Judging.{accepted_steady}
 use Rattle.channels.specs.Waiting.{channel}
 use Rattle.events.specs.declared.fault.SessionFault.{SessionFault}
-use Rattle.events.specs.declared.fault.SessionFault.TheVariants.{Who, What, Back, Turn, Line, Full, Time}
+use Rattle.events.specs.declared.fault.SessionFault.TheVariants.{Who, What, Back, Line, Full, Time}
 use Rattle.session.specs.declared.inner.Inner.{Inner}
 use Rattle.session.specs.declared.step.Direction.{Direction}
 use Rattle.session.specs.declared.step.Direction.TheVariants.{Sends, Takes}
@@ -33,8 +32,8 @@ use Rattle.session.specs.declared.step.Step.{Step}
 use Rattle.session.specs.Admitted.{RowAdmits, Timed}
 use Rattle.session.specs.Delivered.{way_of}
 use Rattle.session.specs.Kept.{no_set, record_of, set_at, monitor_of}
-use Rattle.session.specs.Outcomes.{Known, Worded, InOrder, HasTurn, Waits, HasRoom, InRow, Refused}
-use Rattle.session.specs.Prepared.{set_in_part, move_in_set, direction_in, steps, step_for, step_in, oldest_is, lined_by, lined, turned, unknown, unworded, prepared}
+use Rattle.session.specs.Outcomes.{Known, Worded, InOrder, HasTurn, Waits, HasRoom, Refused}
+use Rattle.session.specs.Prepared.{set_in_part, move_in_set, direction_in, steps, step_in, oldest_is, lined_by, lined, turned, unknown, unworded, prepared}
 use Rattle.session.specs.Watches.{Watches}
 
 module _ (sh : Sheet) (book : Book) (opening depth : ℕ) (es : List Event) (accepted : Accepted) (inner : Inner) (w : Watches sh book opening depth es accepted inner) where

@@ -1,5 +1,5 @@
 -- Computed: what a session finds of an event before it asks its book.
-use Rattle.std.specs.Prelude.{ℕ, Bool, true, false, cond, ◌&&◌, ◌||◌, List, [], ◌∷◌, length, Some, None, Ok, Err, Option, Result, ◌==◌, nat_le, nat_lt, slice_index_or}
+use Rattle.std.specs.Prelude.{ℕ, Bool, false, cond, ◌&&◌, ◌||◌, List, [], ◌∷◌, length, Some, None, Ok, Err, Option, Result, ◌==◌, nat_le, nat_lt, slice_index_or}
 use Rattle.sheet.specs.declared.counts.Counts.{Counts}
 use Rattle.channels.specs.Waiting.{channel}
 use Rattle.events.specs.declared.event.Event.{Event}

@@ -1,6 +1,5 @@
 use Rattle.std.proofs.Common.{◌≤◌, length, get_or, ap, arith, ltb-false}
 use Rattle.std.proofs.lemmas.List.{take_rest}
-use Rattle.events.specs.declared.event.Event.{Event}
 use Rattle.input.proofs.Decoding.{event_first}
 use Rattle.input.proofs.event.decode.Goals as goal
 

@@ -1,8 +1,7 @@
-use Rattle.std.proofs.Common.{◌≡◌, ℕ, ◌^◌, ◌<◌, ◌≤◌, Decides, sym, ap, ◌∙◌, subst, arith}
+use Rattle.std.proofs.Common.{◌≡◌, Decides, sym, ap, ◌∙◌, subst, arith}
 use Rattle.protocol.specs.Sets.{Silent}
 use Rattle.parting.specs.Masks.{has, In}
 use Rattle.parting.specs.Spread.{spread, start}
-use Rattle.parting.specs.View.{places, silent_edges}
 use Rattle.parting.proofs.Passing.{Passing, passing_more, passing_all, pass_grows}
 use Rattle.parting.proofs.Viewing.{silent_decides}
 use Rattle.parting.proofs.closure.closure.Goals as goal

@@ -1,7 +1,7 @@
-use Rattle.std.proofs.Common.{◌≡◌, ℕ, ◌+◌, ◌<◌, ◌≤◌, Bool, true, [], ◌∷◌, ◌++◌, length, take, set, sym, refl, ap, ◌∙◌, subst, arith, length-set}
+use Rattle.std.proofs.Common.{◌≡◌, ◌+◌, ◌<◌, true, [], ◌∷◌, ◌++◌, length, take, set, sym, ap, ◌∙◌, arith, length-set}
 use Rattle.std.proofs.lemmas.List.{length-take-le, length_push, take_more_set}
-use Rattle.queue.specs.Held.{inside, slots_of}
-use Rattle.parting.specs.Family.{outcome, entered}
+use Rattle.queue.specs.Held.{inside}
+use Rattle.parting.specs.Family.{outcome}
 use Rattle.parting.specs.Sets.{found_in}
 use Rattle.parting.proofs.Entering.{entered_known, entered_full, entered_new, pushed, held_count, queued_more}
 use Rattle.parting.proofs.family.enter.Goals as goal

@@ -1,9 +1,9 @@
-use Rattle.std.proofs.Common.{◌≡◌, ℕ, ◌+◌, ◌-◌, ◌<◌, ◌≤◌, length, get_or, sym, refl, ap, ◌∙◌, subst, arith}
+use Rattle.std.proofs.Common.{◌≡◌, ◌+◌, ◌-◌, ◌<◌, length, get_or, sym, ap, ◌∙◌, arith}
 use Rattle.std.proofs.lemmas.Result.{err_from_is_err_and}
-use Rattle.parting.specs.Family.{Found, sets, stopped, visited, explored, family_of}
-use Rattle.parting.specs.Seen.{seen, answered}
-use Rattle.parting.specs.Sets.{found_in, Ready, Waiting}
-use Rattle.parting.proofs.Exploring.{Exploring, Taken, taken, started, start_is, explored_more, explored_stop, explored_all}
+use Rattle.parting.specs.Family.{sets, stopped, visited, family_of}
+use Rattle.parting.specs.Seen.{seen}
+use Rattle.parting.specs.Sets.{found_in}
+use Rattle.parting.proofs.Exploring.{taken, started, start_is, explored_more, explored_stop, explored_all}
 use Rattle.parting.proofs.family.explore.Goals as goal
 
 pub enter-requires : goal.enter-requires

@@ -1,5 +1,5 @@
-use Rattle.std.proofs.Common.{◌≡◌, true, false, sym, refl, ap, ◌∙◌, subst, arith}
-use Rattle.parting.specs.Family.{outcome, followed}
+use Rattle.std.proofs.Common.{sym, ap, ◌∙◌, arith}
+use Rattle.parting.specs.Family.{followed}
 use Rattle.parting.specs.Sets.{found_in}
 use Rattle.parting.proofs.Following.{follows_some, follows_none, follows_all}
 use Rattle.parting.proofs.family.follow.Goals as goal

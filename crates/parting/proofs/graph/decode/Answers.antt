@@ -1,10 +1,10 @@
-use Rattle.std.proofs.Common.{◌≡◌, ℕ, ◌+◌, ◌*◌, ◌<◌, ◌≤◌, List, [], ◌∷◌, ◌++◌, map, length, get_or, take, sym, refl, ap, ◌∙◌, subst, arith}
+use Rattle.std.proofs.Common.{◌≡◌, ◌+◌, ◌<◌, ◌++◌, map, length, get_or, take, refl, ap, ◌∙◌, arith}
 use Rattle.sheet.specs.Decode.{state_of}
-use Rattle.sheet.specs.Model.{State, ended}
+use Rattle.sheet.specs.Model.{ended}
 use Rattle.sheet.proofs.Bodies.{state_of_body}
 use Rattle.reading.specs.Reads.{sheet_of}
 use Rattle.parting.specs.View.{place_of, places_of}
-use Rattle.parting.proofs.Decoding.{Decoded, decoded_more, decoded_all, few_places, sheet_valid}
+use Rattle.parting.proofs.Decoding.{decoded_more, decoded_all, few_places, sheet_valid}
 use Rattle.parting.proofs.graph.decode.Goals as goal
 
 pub decode_state-count-requires : goal.decode_state-count-requires

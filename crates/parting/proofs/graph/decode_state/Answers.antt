@@ -1,9 +1,9 @@
-use Rattle.std.proofs.Common.{◌≡◌, ℕ, ◌+◌, ◌<◌, ◌≤◌, List, [], ◌∷◌, ◌++◌, map, length, take, sym, refl, ap, ◌∙◌, subst, arith, rules}
+use Rattle.std.proofs.Common.{◌≡◌, ℕ, ◌+◌, ◌<◌, ◌≤◌, List, ◌∷◌, ◌++◌, map, length, take, sym, refl, ap, ◌∙◌, arith, rules}
 use Rattle.std.proofs.lemmas.List.{append-nil, length-map}
 use Rattle.sheet.specs.declared.branch.Branch.{Branch}
-use Rattle.sheet.specs.Decode.{branches, state_of}
+use Rattle.sheet.specs.Decode.{branches}
 use Rattle.parting.specs.View.{make_place, place_of, places_of}
-use Rattle.parting.proofs.Decoding.{Decoding, decoding_more, decoding_all}
+use Rattle.parting.proofs.Decoding.{decoding_more, decoding_all}
 use Rattle.parting.proofs.graph.decode_state.Goals as goal
 
 pub returns-in_default : goal.returns-in_default

@@ -1,4 +1,4 @@
-use Rattle.std.proofs.Common.{◌≡◌, ◌∙◌}
+use Rattle.std.proofs.Common.{◌∙◌}
 use Rattle.reading.specs.Reads.{sheet_of}
 use Rattle.parting.proofs.Decoding.{body_handed}
 use Rattle.parting.proofs.graph.state_body.Goals as goal

@@ -1,10 +1,10 @@
-use Rattle.std.proofs.Common.{◌≡◌, ◌+◌, ◌<◌, List, [], ◌∷◌, length, get_or, sym, refl, ap, ◌∙◌, subst, arith, rules}
+use Rattle.std.proofs.Common.{◌+◌, ◌<◌, length, get_or, sym, refl, ◌∙◌, arith, rules}
 use Rattle.std.proofs.ByRecursion.{All-get_or}
 use Rattle.std.proofs.lemmas.Bool.{cond-true, cond-false}
 use Rattle.parting.specs.declared.act.Act.{Act}
 use Rattle.parting.specs.Masks.{has}
 use Rattle.parting.proofs.Blanks.{no_act}
-use Rattle.parting.proofs.Collecting.{Collecting, collecting_none, collecting_some, collecting_all, collecting_at, joined_kept, kept}
+use Rattle.parting.proofs.Collecting.{collecting_none, collecting_some, collecting_all, collecting_at, joined_kept, kept}
 use Rattle.parting.proofs.judging.acts_in.Goals as goal
 use Rattle.parting.proofs.judging.acts_in.Goals.{then-has, else-has}
 

@@ -1,4 +1,4 @@
-use Rattle.std.proofs.Common.{◌≡◌, Bool, true, false, not, ◌||◌, sym, ap, ◌∙◌}
+use Rattle.std.proofs.Common.{◌≡◌, true, false, not, ◌||◌, sym, ap, ◌∙◌}
 use Rattle.parting.specs.Judge.{is_led_from}
 use Rattle.parting.specs.Masks.{has}
 use Rattle.parting.proofs.judging.led_from.Goals as goal

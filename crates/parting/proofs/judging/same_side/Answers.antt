@@ -1,7 +1,5 @@
-use Rattle.std.proofs.Common.{◌≡◌, Bool, true, false, ◌&&◌, eqb, sym, ap, ◌∙◌, ap₂}
+use Rattle.std.proofs.Common.{◌≡◌, true, false, ◌&&◌, eqb, sym, ap, ◌∙◌, ap₂}
 use mathlib.Core.Bool.{beq}
-use Rattle.std.proofs.lemmas.Bool.{and_left}
-use Rattle.parting.specs.declared.act.Act.{Act}
 use Rattle.parting.specs.Judge.{sends, is_same_side}
 use Rattle.parting.proofs.judging.same_side.Goals as goal
 

@@ -1,11 +1,11 @@
-use Rattle.std.proofs.Common.{◌≡◌, ℕ, ◌+◌, ◌<◌, ◌≤◌, List, map, length, get_or, take, sym, refl, ap, ◌∙◌, subst, arith, length-set, length-take}
+use Rattle.std.proofs.Common.{◌≡◌, ◌<◌, ◌≤◌, List, length, get_or, sym, refl, ap, ◌∙◌, subst, arith, length-set, length-take}
 use Rattle.reading.specs.Reads.{sheet_of}
 use Rattle.protocol.specs.Places.{Place}
 use Rattle.parting.specs.Blank.{no_part}
 use Rattle.parting.specs.Bounds.{SmallPlaces}
 use Rattle.parting.specs.Family.{view_of, family_of, stopped}
 use Rattle.parting.specs.Parts.{Parted, family}
-use Rattle.parting.specs.View.{place_of, places}
+use Rattle.parting.specs.View.{places}
 use Rattle.parting.proofs.Bounding.{small_places_lem}
 use Rattle.parting.proofs.Decoding.{sheet_valid}
 use Rattle.parting.proofs.Roles.{faults_more, faults_stop, faults_all, faults_start, tabled_more, tabled_part, tabled_local, stopped_refused}

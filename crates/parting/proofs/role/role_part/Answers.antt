@@ -1,4 +1,4 @@
-use Rattle.std.proofs.Common.{◌≡◌, ◌≤◌, map, length, take, sym, refl, ap, ◌∙◌, subst, arith, length-take}
+use Rattle.std.proofs.Common.{map, sym, subst, arith, length-take}
 use Rattle.parting.specs.Bounds.{SmallActs, SmallEdges}
 use Rattle.parting.specs.Parts.{PartIn}
 use Rattle.parting.specs.View.{place_of}

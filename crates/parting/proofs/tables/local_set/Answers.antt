@@ -1,4 +1,4 @@
-use Rattle.std.proofs.Common.{◌≡◌, ◌<◌, sym, refl, ap, ◌∙◌, subst}
+use Rattle.std.proofs.Common.{◌<◌, sym, refl, ap, ◌∙◌, subst}
 use Rattle.parting.specs.declared.act.Act.{Act}
 use Rattle.parting.specs.Bounds.{SmallActs}
 use Rattle.parting.specs.Masks.{has}

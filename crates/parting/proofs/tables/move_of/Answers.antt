@@ -1,8 +1,7 @@
-use Rattle.std.proofs.Common.{◌≡◌, ℕ, suc, ◌≤◌, true, false, eqb, ◌⊎◌, List, [], ◌∷◌, length, Some, None, Option, sym, refl, ap, ◌∙◌, inl, inr, arith}
-use Rattle.std.proofs.lemmas.Bool.{cases_Bool, cond-true, cond-false}
+use Rattle.std.proofs.Common.{◌≡◌, ℕ, Some, None, Option, sym, ap, ◌∙◌}
 use Rattle.parting.specs.declared.act.Act.{Act}
 use Rattle.parting.specs.declared.local.Move.{Move}
-use Rattle.parting.specs.Family.{position, ends}
+use Rattle.parting.specs.Family.{position}
 use Rattle.parting.specs.Tables.{moved, move_under}
 use Rattle.parting.proofs.tables.move_of.Goals as goal
 

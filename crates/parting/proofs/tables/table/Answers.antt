@@ -1,12 +1,11 @@
-use Rattle.std.proofs.Common.{◌≡◌, ℕ, ◌+◌, ◌<◌, ◌≤◌, ◌⊎◌, List, length, get_or, take, set, sym, refl, ap, ◌∙◌, subst, inl, inr, arith, length-set}
+use Rattle.std.proofs.Common.{◌≡◌, ℕ, ◌+◌, ◌<◌, ◌⊎◌, List, length, get_or, set, sym, refl, ◌∙◌, subst, inl, inr, arith, length-set}
 use Rattle.std.proofs.lemmas.List.{get_or-set_same, get_or-set_other, get_or-take, length-take-le}
 use Rattle.std.proofs.lemmas.Bool.{cases_eq}
-use Rattle.parting.specs.declared.found.Sets.{Sets}
 use Rattle.parting.specs.declared.local.LocalSet.{LocalSet}
 use Rattle.parting.specs.Family.{View}
 use Rattle.parting.specs.Seen.{seen}
 use Rattle.parting.specs.Sets.{found_in}
-use Rattle.parting.specs.Tables.{Entry, Table}
+use Rattle.parting.specs.Tables.{Entry}
 use Rattle.parting.proofs.tables.table.Goals as goal
 
 -- one more entry

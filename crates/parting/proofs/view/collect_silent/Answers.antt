@@ -1,9 +1,9 @@
-use Rattle.std.proofs.Common.{◌≡◌, ◌+◌, ◌<◌, List, [], ◌∷◌, length, get_or, sym, refl, ap, ◌∙◌, subst, arith, rules}
+use Rattle.std.proofs.Common.{◌+◌, ◌<◌, length, sym, refl, ap, ◌∙◌, arith, rules}
 use Rattle.parting.specs.declared.transition.Transition.{Transition}
 use Rattle.parting.specs.Lists.{listed}
 use Rattle.parting.specs.View.{place_of, silent_at}
 use Rattle.parting.proofs.Blanks.{no_transition}
-use Rattle.parting.proofs.Collecting.{Collecting, collecting_none, collecting_some, collecting_all, collecting_at, joined_map}
+use Rattle.parting.proofs.Collecting.{collecting_none, collecting_some, collecting_all, collecting_at, joined_map}
 use Rattle.parting.proofs.view.collect_silent.Goals as goal
 use Rattle.parting.proofs.view.collect_silent.Goals.{in-Some, in_default}
 

@@ -1,8 +1,6 @@
-use Rattle.std.proofs.Common.{◌≡◌, ◌+◌, ◌<◌, List, map, length, get_or, Some, None, sym, ap, ◌∙◌, arith}
+use Rattle.std.proofs.Common.{◌≡◌, ◌+◌, ◌<◌, length, get_or, Some, None, sym, ap, ◌∙◌, arith}
 use Rattle.std.specs.List.{between}
 use Rattle.std.proofs.lemmas.Result.{err_from_is_err_and}
-use Rattle.sheet.specs.declared.fault.ReadFault.{ReadFault}
-use Rattle.sheet.specs.declared.fault.ReadFault.TheVariants.{Twice}
 use Rattle.sheet.specs.Decode.{table, cut}
 use Rattle.sheet.specs.Refuse.{byte_fault, name_fault}
 use Rattle.sheet.proofs.Spans.{length-table}

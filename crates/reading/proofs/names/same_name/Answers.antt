@@ -1,4 +1,4 @@
-use Rattle.std.proofs.Common.{◌≡◌, sym, ◌∙◌, arith}
+use Rattle.std.proofs.Common.{sym, ◌∙◌, arith}
 use Rattle.reading.proofs.Spelling.{same_exact, same_lengths, same_here, same_more, same_end}
 use Rattle.reading.proofs.names.same_name.Goals as goal
 

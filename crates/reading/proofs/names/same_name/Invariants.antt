@@ -1,4 +1,4 @@
-use Rattle.std.proofs.Common.{◌≡◌, length, drop}
+use Rattle.std.proofs.Common.{◌≡◌, drop}
 use Rattle.sheet.specs.Names.{same}
 use Rattle.reading.proofs.names.same_name.Given as goal
 

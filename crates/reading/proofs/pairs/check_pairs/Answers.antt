@@ -1,11 +1,11 @@
-use Rattle.std.proofs.Common.{◌≡◌, ℕ, ◌+◌, ◌<◌, ◌≤◌, true, false, ltb, leb, List, length, get_or, drop, Some, None, sym, ap, ◌∙◌, subst, arith}
+use Rattle.std.proofs.Common.{◌≡◌, ℕ, ◌+◌, ◌<◌, ◌≤◌, true, false, ltb, List, length, get_or, drop, Some, sym, ap, ◌∙◌, arith}
 use Rattle.std.proofs.lemmas.List.{at_drop_more, at_drop_all}
 use Rattle.std.proofs.lemmas.Bool.{and_parts, leb-true, eq-eqb, ne_eqb, cond-true, cond-false}
 use Rattle.sheet.specs.declared.fault.ReadFault.TheVariants.{Pair}
 use Rattle.sheet.specs.declared.span.Span.{Span}
 use Rattle.sheet.specs.Decode.{counts, name_count_of, piece_count_in, table}
 use Rattle.sheet.specs.Encode.{begin}
-use Rattle.sheet.specs.Refuse.{placed, pair_fault, table_fault, sized}
+use Rattle.sheet.specs.Refuse.{placed, pair_fault, sized}
 use Rattle.reading.specs.Places.{nowhere}
 use Rattle.reading.proofs.Checks.{first_fails, first_passes}
 use Rattle.sheet.proofs.Spans.{length-table}

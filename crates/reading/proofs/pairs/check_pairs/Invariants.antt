@@ -1,4 +1,4 @@
-use Rattle.std.proofs.Common.{◌≡◌, ◌≤◌, length, drop}
+use Rattle.std.proofs.Common.{◌≡◌, ◌≤◌, drop}
 use Rattle.sheet.specs.Decode.{table}
 use Rattle.sheet.specs.Refuse.{pair_fault, table_fault}
 use Rattle.reading.proofs.pairs.check_pairs.Given as goal

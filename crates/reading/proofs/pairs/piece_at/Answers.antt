@@ -1,4 +1,4 @@
-use Rattle.std.proofs.Common.{◌≡◌, ◌+◌, ◌-◌, length, take, drop, ap, ◌∙◌, arith, length-take}
+use Rattle.std.proofs.Common.{◌≡◌, ◌+◌, ◌-◌, take, drop, ap, ◌∙◌, arith, length-take}
 use Rattle.sheet.specs.Decode.{cut}
 use Rattle.reading.proofs.Pieces.{piece_within}
 use Rattle.reading.proofs.pairs.piece_at.Goals as goal

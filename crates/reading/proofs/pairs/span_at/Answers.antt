@@ -1,4 +1,3 @@
-use Rattle.std.proofs.Common.{◌≡◌, sym, arith}
 use Rattle.reading.specs.Places.{nowhere}
 use Rattle.sheet.proofs.Spans.{table_at}
 use Rattle.reading.proofs.pairs.span_at.Goals as goal

@@ -1,11 +1,9 @@
-use Rattle.std.proofs.Common.{◌≡◌, ℕ, ◌+◌, ◌-◌, ◌≤◌, List, [], length, take, drop, Some, None, Option, sym, refl, ap, ◌∙◌, arith}
+use Rattle.std.proofs.Common.{◌≡◌, ℕ, ◌-◌, List, [], take, drop, Some, None, sym, ap, ◌∙◌, arith}
 use Rattle.std.specs.List.{between}
-use Rattle.std.proofs.lemmas.Result.{err_from_is_err_and, IfOk-at_ok}
+use Rattle.std.proofs.lemmas.Result.{err_from_is_err_and}
 use Rattle.sheet.specs.declared.counts.Counts.{Counts}
-use Rattle.sheet.specs.declared.fault.ReadFault.{ReadFault}
-use Rattle.sheet.specs.Decode.{counts, name_count_of, piece_count_in, table, role_spans, label_spans, state_spans}
+use Rattle.sheet.specs.Decode.{counts, name_count_of, table, role_spans, label_spans, state_spans}
 use Rattle.sheet.specs.Refuse.{header_fault, table_fault, name_fault, states_fault, fault}
-use Rattle.reading.specs.Places.{Tiled}
 use Rattle.reading.proofs.read.judge.Goals as goal
 
 module _ (bytes : List ℕ) (k : Counts) (is : k ≡ counts bytes) where

@@ -1,4 +1,4 @@
-use Rattle.std.proofs.Common.{◌≡◌, is_some, sym, ap, ◌∙◌}
+use Rattle.std.proofs.Common.{is_some, ap, ◌∙◌}
 use Rattle.sheet.specs.Refuse.{fault}
 use Rattle.sheet.proofs.Clean.{length-bound}
 use Rattle.reading.proofs.read.keep.Goals as goal

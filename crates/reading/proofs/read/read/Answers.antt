@@ -1,9 +1,8 @@
-use Rattle.std.proofs.Common.{◌≡◌, ℕ, ◌<◌, List, Some, None, Option, sym, refl, ap, ◌∙◌, subst, arith}
+use Rattle.std.proofs.Common.{◌≡◌, ℕ, ◌<◌, List, Some, None, sym, ap, ◌∙◌, subst, arith}
 use Rattle.std.proofs.ByRecursion.{All-from_get_or}
 use Rattle.std.proofs.lemmas.Result.{err_from_is_err_and}
 use Rattle.sheet.specs.declared.fault.ReadFault.{ReadFault}
 use Rattle.sheet.specs.Decode.{model}
-use Rattle.sheet.specs.Encode.{encode}
 use Rattle.sheet.specs.Law.{Bytes, Encodes}
 use Rattle.sheet.specs.Model.{Sheet}
 use Rattle.sheet.specs.Refuse.{fault}

@@ -1,4 +1,4 @@
-use Rattle.std.proofs.Common.{◌≡◌, ◌+◌, ◌^◌, ◌<◌, ◌≤◌, length}
+use Rattle.std.proofs.Common.{◌≡◌, ◌+◌, ◌^◌, ◌<◌, length}
 use Rattle.sheet.specs.Decode.{branches}
 use Rattle.sheet.specs.Refuse.{branches_fault}
 use Rattle.reading.proofs.states.check_branches.Given as goal

@@ -1,4 +1,4 @@
-use Rattle.std.proofs.Common.{◌≡◌, ◌≤◌, length, drop, sym, ap, ◌∙◌, arith, ltb-false}
+use Rattle.std.proofs.Common.{◌≤◌, length, sym, ap, ◌∙◌, arith, ltb-false}
 use Rattle.std.proofs.lemmas.List.{take_rest, length-drop}
 use Rattle.sheet.specs.Decode.{byte, branches}
 use Rattle.sheet.specs.Model.{exchange}

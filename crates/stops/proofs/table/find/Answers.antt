@@ -2,7 +2,7 @@ use Rattle.std.proofs.Common.{◌≡◌, ℕ, ◌+◌, ◌<◌, List, map, lengt
 use Rattle.std.proofs.lemmas.List.{at_drop_more, at_drop_all}
 use Rattle.std.proofs.lemmas.Bool.{cond-true, cond-false, eq-eqb, ne_eqb}
 use Rattle.stops.specs.declared.table.Entry.{Entry}
-use Rattle.stops.specs.Words.{Row, word_of}
+use Rattle.stops.specs.Words.{word_of}
 use Rattle.stops.proofs.table.find.Goals as goal
 
 abbrev left : ℕ → List Entry → Option (List ℕ)

@@ -1,4 +1,4 @@
-use Rattle.std.proofs.Common.{◌<◌, arith}
+use Rattle.std.proofs.Common.{arith}
 use Rattle.queue.proofs.Rings.{held_oldest, held_none}
 use Rattle.queue.proofs.queue.Queue.oldest.Goals as goal
 

@@ -1,4 +1,4 @@
-use Rattle.std.proofs.Common.{◌≡◌, ◌-◌, take, sym, refl, ap, ◌∙◌, arith}
+use Rattle.std.proofs.Common.{◌≡◌, ◌-◌, take, ap, ◌∙◌, arith}
 use Rattle.sheet.specs.Refuse.{fault}
 use Rattle.reading.specs.Reads.{bytes_of}
 use Rattle.reading.proofs.Handing.{none_from_test}

@@ -1,4 +1,4 @@
-use Rattle.std.proofs.Common.{◌≡◌, ap, ◌∙◌, arith}
+use Rattle.std.proofs.Common.{ap, ◌∙◌, arith}
 use Rattle.sheet.proofs.Clean.{pairs_there}
 use Rattle.sheet.specs.Decode.{counts, model}
 use Rattle.reading.specs.Handing.{counts_of}

@@ -1,4 +1,4 @@
-use Rattle.std.proofs.Common.{◌≡◌, ℕ, ◌+◌, ◌<◌, ◌≤◌, Bool, true, false, List, [], length, get_or, Some, None, sym, refl, ap, ◌∙◌, subst, arith, below_more}
+use Rattle.std.proofs.Common.{◌≡◌, ℕ, ◌+◌, ◌<◌, Bool, true, false, List, [], length, get_or, Some, None, sym, ap, ◌∙◌, subst, arith, below_more}
 use Rattle.std.proofs.lemmas.Bool.{both_ways}
 use Rattle.sheet.specs.declared.counts.Counts.{Counts}
 use Rattle.sheet.specs.Decode.{counts, piece_count_in, table, cut, model}
@@ -6,7 +6,6 @@ use Rattle.sheet.specs.Names.{same}
 use Rattle.sheet.specs.Refuse.{fault}
 use Rattle.reading.specs.declared.piece.Kind.TheVariants.{Label}
 use Rattle.reading.specs.Finding.{Finds}
-use Rattle.reading.specs.Handing.{counts_of}
 use Rattle.reading.specs.Places.{nowhere}
 use Rattle.reading.specs.Reads.{bytes_of, sheet_of}
 use Rattle.reading.proofs.Handing.{tiled_from_clean, pair_below, piece_is}

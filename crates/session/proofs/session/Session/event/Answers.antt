@@ -1,8 +1,6 @@
 -- Passed: the step is one of the sheet's, and what it changes is read off the events. Stopped: nothing was written.
-use Rattle.std.proofs.Common.{◌≡◌, ℕ, ◌≤◌, ◌⊎◌, List, [], ◌∷◌, ◌++◌, length, Ok, Err, sym, refl, subst, inl, inr, arith, rules}
+use Rattle.std.proofs.Common.{◌≤◌, length, subst, rules}
 use Rattle.std.proofs.lemmas.Result.{err_from_is_err_and}
-use Rattle.session.specs.Admitted.{Timed}
-use Rattle.session.specs.Watches.{Watches}
 use Rattle.session.proofs.Verdict.{Judgement, judged}
 use Rattle.session.proofs.Passage.{Leaves, watches_on, passing}
 use Rattle.session.proofs.Refusing.{stopping}
