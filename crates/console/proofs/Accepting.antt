@@ -1,12 +1,11 @@
 -- A sheet and a book in which no fault is found.
-use Rattle.std.proofs.Common.{◌≡◌, ℕ, List, Some, None, Option, sym, refl, ap, ◌∙◌, subst}
+use Rattle.std.proofs.Common.{◌≡◌, ℕ, List, None, Option, ap, ◌∙◌, subst}
 use Rattle.std.specs.Option.{option_map}
 use Rattle.books.specs.declared.fault.BookFault.{BookFault}
 use Rattle.sheet.specs.Decode.{model}
 use Rattle.sheet.specs.Law.{Encodes}
 use Rattle.sheet.specs.Refuse.{fault}
-use Rattle.sheet.specs.declared.fault.ReadFault.{ReadFault}
-use Rattle.reading.specs.Reads.{bytes_of, sheet_of, Reads}
+use Rattle.reading.specs.Reads.{sheet_of, Reads}
 use Rattle.reading.specs.declared.read_sheet.ReadSheet.{ReadSheet}
 use Rattle.protocol.specs.Accepted.{Accepted as CanBeParted}
 use Rattle.parting.specs.Parts.{part_fault}
@@ -18,7 +17,7 @@ use Rattle.session.specs.Watches.{IsOf}
 use Rattle.events.specs.declared.fault.SessionFault.{SessionFault}
 use Rattle.console.specs.declared.fault.ConsoleFault.{ConsoleFault}
 use Rattle.console.specs.declared.fault.ConsoleFault.TheVariants.{Reading, Book, Parting, Session}
-use Rattle.console.specs.Faults.{before, accept_fault, watch_fault}
+use Rattle.console.specs.Faults.{before}
 
 pub sheet_accepted : (bytes : List ℕ) (s : ReadSheet) (a : Accepted) → Reads bytes s → CanBeParted (sheet_of s) → PartsOf (sheet_of s) a → Encodes bytes (model bytes) × IsOf (model bytes) a
 sheet_accepted bytes s a r parted parts =

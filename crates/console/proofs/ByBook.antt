@@ -1,5 +1,5 @@
 -- Books with the same sets prescribe the same answers.
-use Rattle.std.proofs.Common.{ℕ, ◌<◌, ◌≤◌, ◌⊎◌, List, [], ◌∷◌, ◌++◌, Some, None, Option, inl, inr}
+use Rattle.std.proofs.Common.{ℕ, List, [], ◌∷◌, Some, None, Option, inl, inr}
 use Rattle.books.specs.Sets.{Same}
 use Rattle.sheet.specs.Model.{Sheet}
 use Rattle.protocol.specs.Actions.{Timing}
@@ -7,7 +7,7 @@ use Rattle.events.specs.declared.event.Event.{Event}
 use Rattle.runs.specs.Run.{Book, Admits, Run}
 use Rattle.runs.specs.Laws.{Least, Could}
 use Rattle.session.specs.Calls.{Right, after, Prescribed}
-use Rattle.session.specs.Outcomes.{InRow, Refused, Passing, Stopping, Forecasting}
+use Rattle.session.specs.Outcomes.{InRow, Refused}
 use Rattle.events.specs.declared.call.Answer.{Answer}
 use Rattle.events.specs.declared.call.Answer.TheVariants.{Open, Passed, Next, Stopped}
 use Rattle.events.specs.declared.call.Call.{Call}

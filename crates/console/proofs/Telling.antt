@@ -1,5 +1,5 @@
 -- The calls that events are, one by one, and what is told of them.
-use Rattle.std.proofs.Common.{◌≡◌, ℕ, ◌+◌, ◌<◌, List, [], ◌∷◌, ◌++◌, map, length, IfOk, Some, None, Ok, Err, Option, Result, sym, refl, ap, ◌∙◌, subst, append_assoc, append-nil, arith, MatchOption}
+use Rattle.std.proofs.Common.{◌≡◌, ℕ, ◌<◌, List, [], ◌∷◌, ◌++◌, map, length, IfOk, Some, None, Ok, Err, Option, Result, sym, refl, ap, ◌∙◌, subst, append_assoc, append-nil, arith, MatchOption}
 use Rattle.std.proofs.lemmas.List.{map_push}
 use Rattle.text.specs.StopLine.{line_of_stop}
 use Rattle.books.specs.declared.fault.BookFault.{BookFault}
@@ -13,7 +13,7 @@ use Rattle.events.specs.declared.event.Event.{Event}
 use Rattle.input.specs.Bytes.{event_bytes}
 use Rattle.input.specs.Events.{events_in}
 use Rattle.input.proofs.Decoding.{event_next}
-use Rattle.input.specs.Laid.{Laid, Broken}
+use Rattle.input.specs.Laid.{Broken}
 use Rattle.input.specs.Split.{Splits}
 use Rattle.input.specs.declared.script.Script.{Script}
 use Rattle.session.specs.Calls.{call_of, calls, passed, Prescribed}

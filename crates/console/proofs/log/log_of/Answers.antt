@@ -1,5 +1,5 @@
 use Rattle.std.proofs.Common.{vec_items}
-use Rattle.console.proofs.Telling.{log_more, log_all}
+use Rattle.console.proofs.Telling.{log_more}
 use Rattle.console.proofs.log.log_of.Goals as goal
 
 pub loop-event-preserved : goal.loop-event-preserved

@@ -1,8 +1,8 @@
-use Rattle.std.proofs.Common.{◌≡◌, List, [], ◌++◌, vec_items, sym, ap, ◌∙◌, subst}
+use Rattle.std.proofs.Common.{◌≡◌, ◌++◌, vec_items, sym, ap, ◌∙◌, subst}
 use Rattle.text.specs.Growing.{said}
 use Rattle.text.specs.StopLine.{line_of_stop}
 use Rattle.input.specs.Events.{events_in}
-use Rattle.console.specs.Told.{PartsTold, Told}
+use Rattle.console.specs.Told.{PartsTold}
 use Rattle.console.proofs.Telling.{told_laid, told_broken}
 use Rattle.console.proofs.run.run.Goals as goal
 use Rattle.console.proofs.run.run.Goals.{in-Some+in_ok-put_script-in-Some, in-None+in_ok-put_stop-in-None}

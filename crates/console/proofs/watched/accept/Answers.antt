@@ -1,4 +1,4 @@
-use Rattle.std.proofs.Common.{◌≡◌, None, refl, ap, ◌∙◌}
+use Rattle.std.proofs.Common.{None}
 use Rattle.reading.specs.Reads.{bytes_of}
 use Rattle.console.proofs.Accepting.{sheet_accepted, parting_last}
 use Rattle.console.proofs.watched.accept.Goals as goal
