@@ -1,18 +1,17 @@
 -- The oven's session: what its second and its sixth event meet.
-use Rattle.std.proofs.Common.{◌≡◌, ℕ, ◌≤◌, ◌⊎◌, List, [], ◌∷◌, sym, refl, ap, ◌∙◌, subst, inl, inr, arith}
+use Rattle.std.proofs.Common.{◌≡◌, ℕ, ◌⊎◌, [], ◌∷◌, sym, refl, ap, ◌∙◌, subst, inl, inr, arith}
 use mathlib.Core.List.{Memᴰ}
 use Rattle.protocol.specs.Places.{Place, Has}
 use Rattle.protocol.specs.Actions.{Action, sending, receiving, turn}
-use Rattle.protocol.specs.Sets.{here, Acts, Step, Start, Led}
+use Rattle.protocol.specs.Sets.{here, Acts, Start, Led}
 use Rattle.protocol.proofs.Listed.{places, listed_from_has, place_at}
 use Rattle.protocol.proofs.Turns.{cons_head}
 use Rattle.runs.specs.Events.{mine, along}
 use Rattle.runs.specs.Examples.{branch, event, oven, windows}
-use Rattle.runs.specs.Run.{Admits}
 use Rattle.runs.specs.Waiting.{waiting}
 use Rattle.runs.proofs.Worked.{oven_examples}
 use Rattle.events.specs.declared.fault.SessionFault.TheVariants.{Line, Time}
-use Rattle.session.specs.Outcomes.{GoesOn, Known, Worded, HasTurn, Waits, InRow}
+use Rattle.session.specs.Outcomes.{GoesOn, HasTurn, Waits, InRow}
 use Rattle.worked.specs.Worked.{Stops, asked, answered}
 
 abbrev heat_place : Place

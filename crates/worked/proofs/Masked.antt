@@ -1,5 +1,5 @@
 -- The sets that parting finds, by computation.
-use Rattle.std.proofs.Common.{◌≡◌, ℕ, zero, suc, ◌/◌, ◌%◌, ◌^◌, ◌<◌, true, false, eqb, List, [], ◌∷◌, length, get_or, Some, None, sym, refl, ap, ◌∙◌, subst, arith}
+use Rattle.std.proofs.Common.{◌≡◌, ℕ, zero, suc, ◌%◌, ◌^◌, ◌<◌, true, eqb, List, [], ◌∷◌, get_or, Some, None, sym, refl, ap, ◌∙◌, subst, arith}
 use native.Mathlib.Nat.{div-eq_of_lt}
 use Rattle.std.proofs.lemmas.Nat.{pow_below}
 use Rattle.std.proofs.lemmas.Bool.{false≢true}
@@ -9,9 +9,8 @@ use Rattle.parting.specs.declared.fault.PartFault.{PartFault}
 use Rattle.parting.specs.declared.fault.PartFault.TheVariants.{Untold}
 use Rattle.parting.specs.declared.local.Part.{Part}
 use Rattle.parting.specs.Blank.{no_part}
-use Rattle.parting.specs.Family.{Found, sets, stopped, view_of, start_set, label_entered, entered, visited, family_of}
+use Rattle.parting.specs.Family.{sets, view_of, start_set, label_entered, entered, visited, family_of}
 use Rattle.parting.specs.Judge.{is_same_side, is_same_timing, offers, is_led_from, first_failing_point}
-use Rattle.parting.specs.Local.{set_of}
 use Rattle.parting.specs.Masks.{has, add}
 use Rattle.parting.specs.Parts.{Parted, family, part_fault}
 use Rattle.parting.specs.Spread.{leaves, grow, fill, spread}

@@ -1,5 +1,5 @@
 -- Meaning: the main worked cases, as one list.
-use Rattle.std.specs.Prelude.{◌≡◌, ℕ, List, [], ◌∷◌, Some, None, Decides, Option, slice_index_or}
+use Rattle.std.specs.Prelude.{◌≡◌, ℕ, List, [], ◌∷◌, Some, None, Decides, slice_index_or}
 use Rattle.stops.specs.Stops.{stop_of}
 use Rattle.sheet.specs.Valid.{Valid}
 use Rattle.books.specs.Cases.{Worked}
