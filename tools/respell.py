@@ -1,4 +1,3 @@
-#!/usr/bin/env python3
 """Respells this repository's own names in contracts, specs/ and proofs/, once, right after the toolchain's own script.
 
 Run at the top of the repository. Words are in snake case and types in upper camel case. A dash stays only where it joins

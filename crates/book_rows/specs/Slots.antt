@@ -8,19 +8,19 @@ use Rattle.book_rows.specs.Sets.{InRow}
 abbrev pub period_of : List ℕ → ℕ
 period_of row = number_of row
 
-abbrev pub first_with : List ℕ → ℕ
-first_with row = number_of (drop 4 row)
+abbrev pub first_of : List ℕ → ℕ
+first_of row = number_of (drop 4 row)
 
 abbrev pub width_of : List ℕ → ℕ
 width_of row = number_of (drop 8 row)
 
 -- a legal row
 abbrev pub SlotRule : List ℕ → Type 0
-SlotRule row = (1 ≤ width_of row) × (first_with row + width_of row ≤ period_of row)
+SlotRule row = (1 ≤ width_of row) × (first_of row + width_of row ≤ period_of row)
 
 -- the same as a test
 abbrev pub slot_rule : List ℕ → Bool
-slot_rule row = nat_le 1 (width_of row) && nat_le (first_with row + width_of row) (period_of row)
+slot_rule row = nat_le 1 (width_of row) && nat_le (first_of row + width_of row) (period_of row)
 
 pub slot_decided : (row : List ℕ) → Decides (slot_rule row) (SlotRule row)
 slot_decided row = Decides-and _ _ (leb-true _ _, le-leb _ _) (leb-true _ _, le-leb _ _)
@@ -32,4 +32,4 @@ InSlot period first width v = (v < 2 ^ 32) × (first ≤ v % period) × (v % per
 -- the values that a row of these bytes admits
 abbrev pub SlotAdmits : List ℕ → ℕ → ℕ → Type 0
 SlotAdmits bytes row =
-    InRow (length bytes / 12) row (InSlot (period_of (row_at 12 bytes row)) (first_with (row_at 12 bytes row)) (width_of (row_at 12 bytes row)))
+    InRow (length bytes / 12) row (InSlot (period_of (row_at 12 bytes row)) (first_of (row_at 12 bytes row)) (width_of (row_at 12 bytes row)))

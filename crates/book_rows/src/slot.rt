@@ -4,7 +4,7 @@ ghost use Rattle.std.specs.Prelude.{◌≡◌, ◌+◌, ◌≤◌};
 ghost use Rattle.std.proofs.Common.{lit<};
 ghost use Rattle.book_rows.specs.Nexts.{Next};
 ghost use Rattle.book_rows.specs.Sets.{Holds};
-ghost use Rattle.book_rows.specs.Slots.{InSlot, period_of, first_with, width_of, SlotRule, slot_rule, slot_decided};
+ghost use Rattle.book_rows.specs.Slots.{InSlot, period_of, first_of, width_of, SlotRule, slot_rule, slot_decided};
 
 use crate::kind::RowKind;
 use crate::number::number;
@@ -53,7 +53,7 @@ impl RowKind for Slot {
 
     ghost decided = { slot_decided };
 
-    ghost reads = { λ row s. (s.period ≡ period_of row) × (s.first ≡ first_with row) × (s.width ≡ width_of row) };
+    ghost reads = { λ row s. (s.period ≡ period_of row) × (s.first ≡ first_of row) × (s.width ≡ width_of row) };
 
     fn size() -> usize {
         12

@@ -78,7 +78,7 @@ module _ (refusal : List ℕ → Option BookFault) (rows_in : List ℕ → ℕ) 
         asked = asked;
         prescribed = prescribed;
         closes = closes;
-        text-is = is ∙ ap (λ k. transcript k shown closing) counted ∙ ap (λ l. transcript (counts_of (model sheet)) l closing) same;
+        text_is = is ∙ ap (λ k. transcript k shown closing) counted ∙ ap (λ l. transcript (counts_of (model sheet)) l closing) same;
       })
 
 -- the parts of an input are told, and it has no others

@@ -29,7 +29,7 @@ pub record Watched (bytes : List ℕ) (book : Book) (tick : ℕ) (events : List 
   pub asked : calls log ≡ map Judge events
   pub prescribed : Prescribed sheet book tick 8 [] log
   pub closes : Closes sheet (passed [] log) closing
-  pub text-is : text ≡ transcript (counts_of sheet) log closing
+  pub text_is : text ≡ transcript (counts_of sheet) log closing
 
 -- The parts of an input, with a kind of book: which bytes it refuses, how many rows bytes have, and what each row allows.
 -- The first fault is told as its stop; where there is none, the events are watched.

@@ -1,6 +1,6 @@
 -- Meaning: what a list of events says of each role and of each channel.
 use Rattle.std.specs.Prelude.{ℕ, cond, ◌&&◌, List, [], ◌∷◌, ◌++◌, map, ◌==◌}
-use Rattle.events.specs.declared.event.Event.{Event}
+pub use Rattle.events.specs.declared.event.Event.{Event}
 use Rattle.protocol.specs.Actions.{Way, sends, receives}
 
 -- direction 0 sends, 1 takes

@@ -62,8 +62,8 @@ last_reset opening (e ∷ es) (t ∷ ts) = last_reset (cond t.reset e.tick openi
 abbrev pub Timely : Book → ℕ → List Event → List Timing → Type 0
 Timely book opening es ts =
     (before after : List Event) (e : Event) → es ≡ before ++ (e ∷ after) →
-    (tsBefore tsAfter : List Timing) (t : Timing) → ts ≡ tsBefore ++ (t ∷ tsAfter) → length before ≡ length tsBefore →
-    Admits book t (e.tick - last_reset opening before tsBefore)
+    (ts_before ts_after : List Timing) (t : Timing) → ts ≡ ts_before ++ (t ∷ ts_after) → length before ≡ length ts_before →
+    Admits book t (e.tick - last_reset opening before ts_before)
 
 pub record Run (sh : Sheet) (book : Book) (opening depth : ℕ) (es : List Event) : Type 0 where
   -- first point

@@ -1,7 +1,7 @@
 -- Meaning: what waits in each channel, as a function of the events.
 use Rattle.std.specs.Prelude.{ℕ, ◌-◌, List, [], ◌∷◌, map, length, drop}
 use Rattle.events.specs.declared.event.Event.{Event}
-use Rattle.events.specs.declared.message.Message.{Message}
+pub use Rattle.events.specs.declared.message.Message.{Message}
 use Rattle.runs.specs.Events.{sent, taken}
 
 abbrev pub message : Event → Message

@@ -2,13 +2,13 @@ use Rattle.std.proofs.Common.{◌≡◌, ℕ, ◌+◌, ◌≤◌, true, false, L
 use Rattle.std.proofs.lemmas.List.{drop-drop}
 use Rattle.std.proofs.lemmas.Bool.{and_from, and_parts, le-leb, leb-true, cases_Bool}
 use Rattle.book_rows.specs.Bytes.{number_of}
-use Rattle.book_rows.specs.Slots.{period_of, first_with, width_of, slot_rule}
+use Rattle.book_rows.specs.Slots.{period_of, first_of, width_of, slot_rule}
 use Rattle.book_rows.proofs.slot.SlotRowKind.decode.Goals as goal
 use Rattle.book_rows.proofs.slot.SlotRowKind.decode.Goals.{else-width-ge1-via-then-width-ge1+else-first-width, else-width-ge1-via-else-width-ge1}
 
 -- the numbers that were read are those of the row
 abbrev Read : List ℕ → ℕ → ℕ → ℕ → Type 0
-Read row period first width = (period ≡ period_of row) × (first ≡ first_with row) × (width ≡ width_of row)
+Read row period first width = (period ≡ period_of row) × (first ≡ first_of row) × (width ≡ width_of row)
 
 numbers : (row after last : List ℕ) (period first width : ℕ) → period ≡ number_of row → after ≡ drop 4 row → first ≡ number_of after → last ≡ drop 4 after
     → width ≡ number_of last → Read row period first width
@@ -20,13 +20,13 @@ module _ (row : List ℕ) (period first width : ℕ) (read : Read row period fir
   kept h k =
       sym (and_from _ _
       (le-leb 1 (width_of row) (omega (arith, read.2)))
-      (le-leb (first_with row + width_of row) (period_of row) (omega (arith, read.0, read.1, read.2))))
+      (le-leb (first_of row + width_of row) (period_of row) (omega (arith, read.0, read.1, read.2))))
 
   broken : (1 ≤ width → first + width ≤ period → ⊥) → false ≡ slot_rule row
   broken against =
       elim (cases_Bool (slot_rule row)) [
         | inl t ↦ absurd (against (omega (arith, read.2, leb-true 1 (width_of row) (and_parts _ _ t).0))
-            (omega (arith, read.0, read.1, read.2, leb-true (first_with row + width_of row) (period_of row) (and_parts _ _ t).1)))
+            (omega (arith, read.0, read.1, read.2, leb-true (first_of row + width_of row) (period_of row) (and_parts _ _ t).1)))
         | inr f ↦ sym f
       ]
 
