@@ -42,6 +42,7 @@ impl<'a, T: Copy> Queue<'a, T> {
     }
 
     /// The oldest element, which stays where it is.
+    #[tactic(auto, using(crate::proofs::Rings::held_oldest))]
     pub fn oldest(&self) -> Option<T>
         ensures { MatchOption result (inside self.now ≡ []) (λ x. inside self.now ≡ x ∷ drop 1 (inside self.now)) }
     {

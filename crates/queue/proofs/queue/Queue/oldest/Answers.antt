@@ -1,13 +1,7 @@
-use Rattle.std.proofs.Common.{arith}
-use Rattle.queue.proofs.Rings.{held_oldest, held_none}
+use Rattle.queue.proofs.Rings.{held_none}
 use Rattle.queue.proofs.queue.Queue.oldest.Goals as goal
 
 pub returns-then-self-eq0 : goal.returns-then-self-eq0
 returns-then-self-eq0 g c =
     let q = c.args.self.now in
     held_none q.slots.now q.first q.count c.if-self-eq0.true
-
-pub returns : goal.returns
-returns g c =
-    let q = c.args.self.now in
-    held_oldest q.slots.now q.first q.count c.index-slots-self.result (omega (arith, q.begins, q.fits)) q.fits (omega arith) c.index-slots-self.is
