@@ -36,8 +36,18 @@ CHOSEN = {
     "noClash": "is_unclashed_list", "oneSide": "is_one_sided", "pieceCount": "piece_count_in", "placeAt": "make_place", "sameOffer": "is_same_offer",
     "sameTiming": "is_same_timing", "same-timing": "equal_timing", "sameLabels": "is_same_labels", "sameSide": "is_same_side", "setIn": "set_in_part",
     "slotBytes": "bytes_of_slot", "windowBytes": "bytes_of_window", "stopLine": "line_of_stop", "toldIfActing": "is_told_if_acting",
-    "text-is": "text-is",  # a step of the check has this name too
+    "text-is": "text-is",  # a step of the check has this name too, but in the files below
+    "set-kept": "set_kept",
     "actsIn": "acts_listed", "countsIn": "counts_read", "bodyIn": "body_read", "body_of": "body_in", "move_of": "move_under", "step_of": "step_for", "word_for": "word_of_number",
+}
+
+# words that only these files have in this sense
+HERE = {
+    "crates/book": {"firstOf": "first_of"},
+    "crates/runs/specs/Run": {"tsBefore": "ts_before", "tsAfter": "ts_after"},
+    "crates/console/specs/Told": {"text-is": "text_is"},
+    "crates/console/proofs/Telling": {"text-is": "text_is"},
+    "crates/console/": {"rowsIn": "rows_in", "rowsIn:": "rows_in:"},
 }
 
 
@@ -108,6 +118,14 @@ def respelled(found):
     return out
 
 
+def plain(text):
+    """No import stands under one of the library's plain words: `All` there is another fact."""
+    if "AllByRecursion as All" not in text:
+        return text
+    lines = text.replace("AllByRecursion as All", "AllByRecursion").split("\n")
+    return "\n".join(x if x.lstrip().startswith("--") else re.sub(r"(?<![\w.'-])All(?![\w'-])", "AllByRecursion", x) for x in lines)
+
+
 def turned(text, names, fields, all_dots, source=False):
     def one(m):
         word = m.group(2)
@@ -150,7 +168,11 @@ def main():
     for path in files(".antt", ".rt", ".edit", ".md"):
         old = open(path, encoding="utf-8").read()
         use = names if path.endswith((".antt", ".rt")) else pages
-        new = turned(old, use, fields, path.endswith((".md", ".edit")), path.endswith(".rt"))
+        dotted = fields
+        for place, words in HERE.items():
+            if path.startswith("./" + place):
+                use, dotted = use | words, dotted | set(words)
+        new = turned(plain(old) if path.endswith(".antt") else old, use, dotted, path.endswith((".md", ".edit")), path.endswith(".rt"))
         if new != old:
             open(path, "w", encoding="utf-8").write(new)
 
