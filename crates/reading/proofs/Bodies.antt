@@ -1,5 +1,5 @@
 -- A state's body and its branch bytes, one piece at a time.
-use Rattle.std.proofs.Common.{◌≡◌, ℕ, ◌≤◌, List, [], ◌∷◌, length, drop, refl, arith}
+use Rattle.std.proofs.Common.{◌≡◌, ℕ, ◌*◌, ◌≤◌, List, [], ◌∷◌, length, drop, refl, arith}
 use Rattle.sheet.specs.declared.branch.Branch.{Branch}
 use Rattle.sheet.specs.Decode.{byte, branches, state_of}
 use Rattle.sheet.specs.Model.{exchange}
@@ -14,6 +14,15 @@ branches_more (a ∷ b ∷ []) h = absurd (omega arith)
 branches_more (a ∷ b ∷ c ∷ []) h = absurd (omega arith)
 branches_more (a ∷ b ∷ c ∷ d ∷ []) h = absurd (omega arith)
 branches_more (a ∷ b ∷ c ∷ d ∷ e ∷ rest) h = refl
+
+-- five bytes a branch
+pub branches_length : (xs : List ℕ) → 5 * length (branches xs) ≤ length xs
+branches_length [] = omega arith
+branches_length (a ∷ []) = omega arith
+branches_length (a ∷ b ∷ []) = omega arith
+branches_length (a ∷ b ∷ c ∷ []) = omega arith
+branches_length (a ∷ b ∷ c ∷ d ∷ []) = omega arith
+branches_length (a ∷ b ∷ c ∷ d ∷ e ∷ rest) = omega (arith, branches_length rest)
 
 pub state_more : (xs : List ℕ) → 2 ≤ length xs → state_of xs ≡ exchange (byte xs 0) (byte xs 1) (branches (drop 2 xs))
 state_more [] h = absurd (omega arith)

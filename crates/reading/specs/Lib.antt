@@ -3,3 +3,4 @@ pub mod Finding
 pub mod Places
 pub mod Reads
 pub mod Handing
+pub mod Branching

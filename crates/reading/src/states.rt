@@ -1,9 +1,11 @@
 //! States and branches: the one place where their bytes are taken apart.
 
 ghost use Rattle.std.specs.Prelude.{◌≡◌, ◌+◌, ◌^◌, ◌<◌, ◌≤◌, [], ◌∷◌, length, MatchOption};
+ghost use Rattle.std.specs.Iterator.{YieldsFirst, item_count};
 ghost use Rattle.sheet.specs.Model.{ended, exchange};
 ghost use Rattle.sheet.specs.Decode.{counts as counts_read, name_count_of, piece_count_in, table, branches as branches_in, state_of, state_spans};
 ghost use Rattle.sheet.specs.Refuse.{row, branch_fault, branches_fault, state_fault, states_fault};
+ghost use Rattle.reading.specs.Branching.{branches_left};
 ghost use Rattle.reading.specs.Faults.{fault_of};
 ghost use Rattle.reading.specs.Places.{Tiled};
 
@@ -54,6 +56,35 @@ pub fn split_branch(bytes: &[u8]) -> Option<(Branch, &[u8])>
     }
 }
 
+/// The branches in a state's branch bytes, one by one.
+#[derive(Drop)]
+pub struct Branches<'a> {
+    left: &'a [u8],
+}
+
+impl<'a> Branches<'a> {
+    /// Goes over the branches in these bytes.
+    pub fn new(bytes: &'a [u8]) -> Branches<'a>
+        ensures { branches_left result ≡ branches_in bytes.now }
+    {
+        Branches { left: bytes }
+    }
+}
+
+impl<'a> Iterator for Branches<'a> {
+    type Item = Branch;
+
+    ghost next_gives = { YieldsFirst branches_left };
+
+    ghost remaining = { item_count branches_left };
+
+    fn next(&mut self) -> Option<Branch> {
+        let (branch, rest) = split_branch(self.left)?;
+        self.left = rest;
+        Some(branch)
+    }
+}
+
 fn is_row(counts: Counts, number: u8) -> bool
     ensures { result ≡ row counts number }
 {
@@ -83,16 +114,15 @@ fn check_branch(counts: Counts, offset: usize, low: usize, branch: Branch) -> Re
     Ok(())
 }
 
+#[tactic(auto, using(crate::proofs::Bodies::branches_length))]
 fn check_branches(counts: Counts, offset: usize, bytes: &[u8]) -> Result<(), ReadFault>
     requires { offset + length bytes.now + 5 < 2 ^ 64 }
     ensures { fault_of result ≡ branches_fault counts offset 0 (branches_in bytes.now) }
 {
-    let mut left = bytes;
     let mut at = offset;
     let mut low = 0;
-    while let Some((branch, rest)) = split_branch(left) {
+    for branch in Branches::new(bytes) {
         check_branch(counts, at, low, branch)?;
-        left = rest;
         at += 5;
         low = branch.label as usize + 1;
     }
