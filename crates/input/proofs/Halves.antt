@@ -1,6 +1,10 @@
 -- Numbers in bytes, and back.
-use Rattle.std.proofs.Common.{◌≡◌, ℕ, ◌+◌, ◌*◌, ◌/◌, ◌%◌, ◌<◌, ◌≤◌, List, [], ◌∷◌, ◌++◌, length, get_or, take, drop, sym, refl, ap, ◌∙◌, arith}
-use Rattle.std.proofs.lemmas.List.{length-append, take_at, drop_at}
+use Rattle.std.proofs.Common.{◌≡◌, ℕ, ◌+◌, ◌*◌, ◌/◌, ◌%◌, ◌^◌, ◌<◌, ◌≤◌, List, [], ◌∷◌, ◌++◌, length, get_or, take, drop, Some, None, Option, sym, refl, ap, ◌∙◌, arith}
+use denote.Ref.{Bor}
+use Rattle.std.specs.Prelude.{MatchOption, ◌≢◌}
+use Rattle.std.specs.List.{IsSplitAt, AllByRecursion}
+use Rattle.std.proofs.lemmas.List.{length-append, take_at, drop_at, take-append-drop}
+use Rattle.book_rows.specs.Bytes.{number_of}
 use Rattle.input.specs.Bytes.{four, sized}
 use Rattle.input.specs.Events.{tick_of}
 
@@ -61,9 +65,26 @@ sized_is (a ∷ b ∷ rest) front back size h r s l e =
     let q : length front % 256 ≡ b = omega (arith, r 0, r 1) in
     cc
 
-pub four_first : (bytes rest : List ℕ) (n : ℕ) → 4 ≤ length bytes → ((i : ℕ) → get_or bytes i 0 < 256) → n ≡ tick_of (get_or bytes 0 0) (get_or bytes 1 0) (get_or bytes 2 0) (get_or bytes 3 0) → rest ≡ drop 4 bytes → four n ++ rest ≡ bytes
+-- the number that bytes begin with, and what follows it
+pub four_first : (bytes rest : List ℕ) (n : ℕ) → 4 ≤ length bytes → AllByRecursion (λ b. b < 256) bytes → n ≡ number_of bytes → rest ≡ drop 4 bytes → (n < 2 ^ 32) × (four n ++ rest ≡ bytes)
+unfolding number_of
 four_first [] rest n h r e t = absurd (omega arith)
 four_first (a ∷ []) rest n h r e t = absurd (omega arith)
 four_first (a ∷ b ∷ []) rest n h r e t = absurd (omega arith)
 four_first (a ∷ b ∷ c ∷ []) rest n h r e t = absurd (omega arith)
-four_first (a ∷ b ∷ c ∷ d ∷ more) rest n h r e t = ap (λ w. w ++ rest) (four_is a b c d n (r 0) (r 1) (r 2) (r 3) e) ∙ ap (λ w. a ∷ b ∷ c ∷ d ∷ w) t
+four_first (a ∷ b ∷ c ∷ d ∷ more) rest n h r e t = (
+  omega (arith, r.0, r.1.0, r.1.1.0, r.1.1.1.0),
+  ap (λ w. w ++ rest) (four_is a b c d n r.0 r.1.0 r.1.1.0 r.1.1.1.0 e) ∙ ap (λ w. a ∷ b ∷ c ∷ d ∷ w) t,
+)
+
+-- two bytes and what follows, cut after as many bytes as they say
+pub sized_cut : (bytes back : List ℕ) (size : ℕ) (r : Option (Bor (List ℕ) × Bor (List ℕ))) → 2 ≤ length bytes → ((i : ℕ) → get_or bytes i 0 < 256) → size ≡ get_or bytes 0 0 * 256 + get_or bytes 1 0 → back ≡ drop 2 bytes
+    → MatchOption r (length back < size) (λ p. IsSplitAt back size p.0.now p.1.now)
+    → MatchOption r ((x rest : List ℕ) → length x < 2 ^ 16 → sized x ++ rest ≢ bytes) (λ p. (length p.0.now < 2 ^ 16) × (sized p.0.now ++ p.1.now ≡ bytes))
+sized_cut bytes back size None h r is e short = λ x rest fits whole.
+    let p = sized_parts bytes x rest whole in
+    let q = sized_within bytes x rest whole in
+    omega (arith, p.0, q.1, is, ap length e, short)
+sized_cut bytes back size (Some (x, y)) h r is e cut =
+    let whole : x.now ++ y.now ≡ back = cc (take-append-drop size back) in
+    (omega (arith, cut.3, is, r 0, r 1), sized_is bytes x.now y.now size h r is cut.3 (whole ∙ e))

@@ -1,16 +1,25 @@
 -- An input and its parts.
-use Rattle.std.proofs.Common.{◌≡◌, ℕ, ◌%◌, ◌^◌, ◌<◌, ◌≤◌, List, [], ◌∷◌, ◌++◌, length, sym, ap, ◌∙◌, subst}
+use Rattle.std.proofs.Common.{◌≡◌, ℕ, ◌%◌, ◌^◌, ◌<◌, ◌≤◌, List, [], ◌∷◌, ◌++◌, length, drop, sym, ap, ◌∙◌, subst}
 use Rattle.std.specs.List.{flat_map, AllByRecursion}
+use Rattle.book_rows.specs.Bytes.{number_of}
 use Rattle.events.specs.declared.event.Event.{Event}
 use Rattle.input.specs.Bytes.{sized, four, event_bytes}
 use Rattle.input.specs.Events.{events_in}
 use Rattle.input.specs.Laid.{Laid}
-use Rattle.input.proofs.Halves.{sized_same, four_same}
+use Rattle.input.proofs.Halves.{sized_same, four_same, four_first}
 use Rattle.input.proofs.Decoding.{events_back, events_whole, events_are}
 
 pub bytes_after : (x y : List ℕ) → AllByRecursion (λ b. b < 256) (x ++ y) → AllByRecursion (λ b. b < 256) y
 bytes_after [] y h = h
 bytes_after (b ∷ x) y h = bytes_after x y h.1
+
+-- the number that comes third, and the bytes after it
+pub third_is : (input sheet book after-sheet after-book bytes : List ℕ) (tick : ℕ) → sized sheet ++ after-sheet ≡ input → sized book ++ after-book ≡ after-sheet → AllByRecursion (λ b. b < 256) input
+    → (4 ≤ length after-book) × (tick ≡ number_of after-book) × (bytes ≡ drop 4 after-book) → (tick < 2 ^ 32) × (four tick ++ bytes ≡ after-book)
+third_is input sheet book after-sheet after-book bytes tick first second ranges is =
+    let first_tail = bytes_after (sized sheet) after-sheet (subst (AllByRecursion (λ b. b < 256)) (sym first) ranges) in
+    let second-tail = bytes_after (sized book) after-book (subst (AllByRecursion (λ b. b < 256)) (sym second) first_tail) in
+    four_first after-book bytes tick is.0 second-tail is.1 is.2
 
 -- what the parts of an input are, where its bytes were taken apart
 module _ (input sheet book after-sheet after-book bytes : List ℕ) (tick : ℕ) (first : sized sheet ++ after-sheet ≡ input) (second : sized book ++ after-book ≡ after-sheet) (third : four tick ++ bytes ≡ after-book) where

@@ -1,11 +1,12 @@
 //! Splitting an input into its parts.
 
 ghost use Rattle.std.specs.Prelude.{◌≡◌, ℕ, ◌^◌, ◌<◌, List, ◌++◌, length, MatchOption, ◌≢◌};
-ghost use Rattle.input.specs.Bytes.{sized as sized_bytes, four};
+ghost use Rattle.input.specs.Bytes.{sized as sized_bytes};
 ghost use Rattle.input.specs.Laid.{Broken};
 ghost use Rattle.input.specs.Split.{Splits};
 
 use crate::script::Script;
+use book_rows::number::number;
 
 /// The most bytes that an input may have.
 pub const MOST_INPUT: usize = 65_536;
@@ -32,29 +33,10 @@ pub fn split(input: &[u8]) -> Option<Script<'_>>
     })
 }
 
-/// The bytes whose length of 16 bits comes first, and the bytes after them.
-fn sized(bytes: &[u8]) -> Option<(&[u8], &[u8])>
+/// The bytes whose length of 16 bits comes first, and the bytes after them; none where bytes are missing.
+pub fn sized(bytes: &[u8]) -> Option<(&[u8], &[u8])>
     ensures { MatchOption result ((x rest : List ℕ) → length x < 2 ^ 16 → sized_bytes x ++ rest ≢ bytes.now) (λ p. (length p.0.now < 2 ^ 16) × (sized_bytes p.0.now ++ p.1.now ≡ bytes.now)) }
 {
-    match bytes {
-        [high, low, rest @ ..] => {
-            let size = u16::from_be_bytes([*high, *low]) as usize;
-            if size <= rest.len() {
-                Some(rest.split_at(size))
-            } else {
-                None
-            }
-        }
-        _ => None,
-    }
-}
-
-/// The number of 32 bits that the bytes begin with, and the bytes after it.
-fn number(bytes: &[u8]) -> Option<(u32, &[u8])>
-    ensures { MatchOption result (length bytes.now < 4) (λ p. (p.0 < 2 ^ 32) × (four p.0 ++ p.1.now ≡ bytes.now)) }
-{
-    match bytes {
-        [a, b, c, d, rest @ ..] => Some((u32::from_be_bytes([*a, *b, *c, *d]), rest)),
-        _ => None,
-    }
+    let (size, rest) = bytes.split_first_chunk::<2>()?;
+    rest.split_at_checked(u16::from_be_bytes(*size) as usize)
 }
