@@ -24,6 +24,8 @@ pub struct Stop {
 }
 
 /// The layer that refuses with this number.
+// Any byte is asked for, as 71 to 79, which have a layer and no word: an enum of the numbers would say each of them once more,
+// and a byte would have to be turned into it first.
 pub fn layer_of(number: u8) -> Layer
     ensures { result ≡ layer_of_number number }
 {

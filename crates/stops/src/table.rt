@@ -5,7 +5,7 @@ ghost use Rattle.std.specs.Option.{option_map};
 ghost use Rattle.stops.specs.Words.{words, word_of, Rising, Named};
 
 /// A stop's number and the word that the programs print for it.
-#[derive(Clone, Copy)]
+#[derive(Clone, Copy, PartialEq, Eq, Debug)]
 pub struct Entry {
     pub number: u8,
     pub word: &'static [u8],
@@ -135,10 +135,8 @@ pub fn rows_in_order() -> usize
 fn find(entries: &[Entry], number: u8) -> Option<&'static [u8]>
     ensures { option_map (λ x. x.now) result ≡ word_of number (map (λ e. (e.number, e.word.now)) entries.now) }
 {
-    for entry in entries {
-        if entry.number == number {
-            return Some(entry.word);
-        }
-    }
-    None
+    entries
+        .iter()
+        .find(|entry| entry.number == number)
+        .map(|entry| entry.word)
 }

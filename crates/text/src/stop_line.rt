@@ -13,19 +13,20 @@ use stops::table::word;
 pub fn word_for(number: u8) -> &'static [u8]
     ensures { result.now ≡ word_of_number number }
 {
-    match word(number) {
-        Some(word) => word,
-        None => b"",
-    }
+    word(number).unwrap_or(b"")
 }
 
 /// Puts a stop's line: its number, its word and its two places.
+// No `Display` of a stop: the words are bytes, and a formatter takes text alone.
 pub fn put_stop(text: &mut Text, stop: Stop) -> Result<(), AllocError>
     ensures { Adds text.old text.new result (line_of_stop stop) }
 {
-    let number = stop.number;
-    let first = stop.first;
-    let second = stop.second;
+    let Stop {
+        number,
+        first,
+        second,
+        ..
+    } = stop;
     write!(text, "STOP {number} ")?;
     text.put(word_for(number))?;
     writeln!(text, " {first} {second}")
