@@ -117,3 +117,14 @@ held_oldest s f c x hf hc pos is =
     let e : f + 0 ≡ f = omega arith in
     drop_more (held s f c) 0 x some
     ∙ ap (λ y. y ∷ drop (0 + 1) (held s f c)) (held_low s f c 0 x pos low ∙ ap (λ n. get_or s n x) e ∙ sym is)
+
+-- what is known of a ring from its oldest item
+module _ {X : Type 0} (s : List X) (f c : ℕ) (x : X) (hf : f ≤ length s - 1) (hc : c ≤ length s) (e : held s f c ≡ x ∷ drop 1 (held s f c)) where
+  pub some_held : 0 < c
+  some_held = let n : length (held s f c) ≡ suc (length (drop 1 (held s f c))) = ap length e in omega (arith, n, length-held s f c hf hc)
+
+  pub oldest_slot : x ≡ get_or s f x
+  oldest_slot =
+      let low : f + 0 < length s = omega (arith, some_held) in
+      let at : f + 0 ≡ f = omega arith in
+      sym (ap (λ l. get_or l 0 x) e) ∙ held_low s f c 0 x some_held low ∙ ap (λ n. get_or s n x) at

@@ -46,6 +46,7 @@ impl<'a, T: Copy> Queue<'a, T> {
     pub fn oldest(&self) -> Option<T>
         ensures { MatchOption result (inside self.now ≡ []) (λ x. inside self.now ≡ x ∷ drop 1 (inside self.now)) }
     {
+        // `then` was tried: the proof learns nothing of what a closure that copies a `T` answers.
         if self.count == 0 {
             return None;
         }
@@ -80,10 +81,7 @@ impl<'a, T: Copy> Queue<'a, T> {
         ensures slots { slots_of self.new ≡ slots_of self.old }
         ensures lender { self.new.slots.ghost_name ≡ self.old.slots.ghost_name }
     {
-        if self.count == 0 {
-            return None;
-        }
-        let x = self.slots[self.first];
+        let x = self.oldest()?;
         let next = self.first + 1;
         self.first = if next == self.slots.len() { 0 } else { next };
         self.count -= 1;
