@@ -1,13 +1,12 @@
 //! What the channels do.
 
-ghost use Rattle.std.specs.Prelude.{◌≡◌, ℕ, ◌<◌, ◌≤◌, ◌&&◌, [], ◌∷◌, ◌++◌, length, drop, IfNone, if◌then◌else◌, MatchResult, ◌==◌};
-ghost use Rattle.channels.specs.Waiting.{channel, first as oldest_of};
+ghost use Rattle.std.specs.Prelude.{◌≡◌, ℕ, ◌<◌, ◌≤◌, ◌&&◌, [], ◌∷◌, ◌++◌, length, drop, IfNone, if◌then◌else◌, MatchOption, MatchResult, ◌==◌};
+ghost use Rattle.channels.specs.Waiting.{channel, waiting, first as oldest_of};
 
+use crate::channel::Channel;
 use crate::channels::Channels;
 use crate::number::index;
-use crate::place::Place;
 use events::message::Message;
-use queue::queue::Queue;
 
 impl Channels {
     /// Nothing under way.
@@ -15,9 +14,15 @@ impl Channels {
         ensures { (a b : ℕ) → channel result a b ≡ [] }
     {
         Channels {
-            slots: [[Message { label: 0, tick: 0 }; 8]; 36],
-            places: [Place { first: 0, count: 0 }; 36],
+            channels: [Channel::empty(); 36],
         }
+    }
+
+    // The channel from one role to another; none where a role has no such number.
+    fn channel(&self, from: u8, to: u8) -> Option<&Channel>
+        ensures { MatchOption result (channel self.now from to ≡ []) (λ line. channel self.now from to ≡ waiting line.now) }
+    {
+        self.channels.get(index(from, to)?)
     }
 
     /// How many messages wait from one role to another; none where there is no such channel.
@@ -25,18 +30,14 @@ impl Channels {
         ensures value { result ≡ length (channel self.now from to) }
         ensures few { result ≤ 8 }
     {
-        match index(from, to) {
-            Some(i) => self.places[i].waiting(&self.slots[i]),
-            None => 0,
-        }
+        self.channel(from, to).map_or(0, Channel::len)
     }
 
     /// The oldest message that waits from one role to another, which stays where it is.
     pub fn oldest(&self, from: u8, to: u8) -> Option<Message>
         ensures { result ≡ oldest_of (channel self.now from to) }
     {
-        let i = index(from, to)?;
-        self.places[i].oldest(&self.slots[i])
+        self.channel(from, to)?.oldest()
     }
 
     /// Puts a message last; or gives it back, with nothing changed, where there is no such channel or 8
@@ -44,14 +45,8 @@ impl Channels {
     pub fn send(&mut self, from: u8, to: u8, message: Message) -> Result<(), Message>
         ensures { MatchResult result (λ _. (from < 6) × (to < 6) × (length (channel self.old from to) < 8) × ((a b : ℕ) → channel self.new a b ≡ (if a == from && b == to then channel self.old a b ++ message ∷ [] else channel self.old a b))) (λ back. (back ≡ message) × (self.new ≡ self.old) × (from < 6 → to < 6 → 8 ≤ length (channel self.old from to))) }
     {
-        let Some(i) = index(from, to) else {
-            return Err(message);
-        };
-        let place = self.places[i];
-        let mut queue = Queue::resume(&mut self.slots[i], place.first, place.count);
-        queue.push(message)?;
-        self.places[i] = Place::of(&queue);
-        Ok(())
+        let i = index(from, to).ok_or(message)?;
+        self.channels[i].push(message)
     }
 
     /// Takes the oldest message out; none, with nothing changed, where none waits.
@@ -60,11 +55,6 @@ impl Channels {
         ensures rest { (a b : ℕ) → channel self.new a b ≡ (if a == from && b == to then drop 1 (channel self.old a b) else channel self.old a b) }
         ensures kept { IfNone result (self.new ≡ self.old) }
     {
-        let i = index(from, to)?;
-        let place = self.places[i];
-        let mut queue = Queue::resume(&mut self.slots[i], place.first, place.count);
-        let message = queue.pop()?;
-        self.places[i] = Place::of(&queue);
-        Some(message)
+        self.channels[index(from, to)?].pop()
     }
 }

@@ -2,6 +2,7 @@
 #![tactic(auto)]
 
 mod calls;
+mod channel;
 pub mod channels;
 mod number;
 mod place;

@@ -10,9 +10,5 @@ const ROLES: u8 = 6;
 pub(crate) fn index(from: u8, to: u8) -> Option<usize>
     ensures { SomeIff result ((from < 6) × (to < 6)) (6 * from + to) }
 {
-    if from < ROLES && to < ROLES {
-        Some(ROLES as usize * from as usize + to as usize)
-    } else {
-        None
-    }
+    (from < ROLES && to < ROLES).then_some(ROLES as usize * from as usize + to as usize)
 }
