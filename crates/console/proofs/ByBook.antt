@@ -5,7 +5,8 @@ use Rattle.sheet.specs.Model.{Sheet}
 use Rattle.protocol.specs.Actions.{Timing}
 use Rattle.events.specs.declared.event.Event.{Event}
 use Rattle.runs.specs.Run.{Book, Admits, Run}
-use Rattle.runs.specs.Laws.{Least, Could}
+use Rattle.runs.specs.Laws.{Could}
+use Rattle.runs.proofs.Foresee.{least_by}
 use Rattle.session.specs.Calls.{Right, after, Prescribed}
 use Rattle.session.specs.Outcomes.{InRow, Refused}
 use Rattle.events.specs.declared.call.Answer.{Answer}
@@ -45,10 +46,6 @@ module _ (P Q : Book) (to : (row v : ℕ) → P row v → Q row v) where
   could_wider : (sh : Sheet) (opening depth : ℕ) (es : List Event) (m t : ℕ) → Could sh P opening depth es m t → Could sh Q opening depth es m t
   could_wider sh opening depth es m t c = (c.0, c.1, c.2, run_wider sh opening depth _ c.3)
 
-least_by : (P Q : ℕ → Type 0) → ((t : ℕ) → P t → Q t) → ((t : ℕ) → Q t → P t) → (low high : ℕ) (answer : Option ℕ) → Least P low high answer → Least Q low high answer
-least_by P Q to back low high (Some t) h = (h.0, h.1, to t h.2, λ u a b q. h.3 u a b (back u q))
-least_by P Q to back low high None h = λ u a b q. h u a b (back u q)
-
 module _ (P Q : Book) (same : (row v : ℕ) → Same (P row v) (Q row v)) (sh : Sheet) (opening depth : ℕ) where
   abbrev to : (row v : ℕ) → P row v → Q row v
   to row v = (same row v).0
@@ -74,7 +71,7 @@ module _ (P Q : Book) (same : (row v : ℕ) → Same (P row v) (Q row v)) (sh : 
   right_by es (Judge e) Open p = p
   right_by es (Forecast role) (Next tick) f = record {
     known = f.known;
-    least = least_by _ _ (could_wider P Q to sh opening depth es role) (could_wider Q P back sh opening depth es role) _ _ tick f.least;
+    least = least_by _ _ _ _ (λ u _. could_wider P Q to sh opening depth es role u) (λ u _. could_wider Q P back sh opening depth es role u) tick f.least;
   }
   right_by es (Forecast role) (Stopped fault) p = p
   right_by es (Forecast role) (Passed n) p = p

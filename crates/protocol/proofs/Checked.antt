@@ -1,8 +1,9 @@
 -- A test that finds out that a role has a part, for sheets that are written out: its sets are handed in as lists of
 -- states, each state behind one that it is reached from.
-use Rattle.std.proofs.Common.{◌≡◌, ℕ, zero, suc, ◌<◌, Bool, true, false, not, ◌&&◌, ◌||◌, eqb, leb, ◌⊎◌, List, [], ◌∷◌, map, length, get_or, Decides, sym, refl, ap, ◌∙◌, subst, inl, inr, arith}
+use Rattle.std.proofs.Common.{◌≡◌, ℕ, ◌<◌, Bool, true, false, not, ◌&&◌, ◌||◌, eqb, leb, ◌⊎◌, List, [], ◌∷◌, map, length, get_or, Decides, sym, refl, ap, ◌∙◌, subst, inl, inr, arith}
 use mathlib.Core.List.{Memᴰ}
 use lib.ListN.{length-map}
+use Rattle.std.proofs.Math.ListN.{get_or-map}
 use Rattle.std.proofs.lemmas.Bool.{and_parts, and_from, or_cases, or_left, eq-eqb, eqb-true, leb-true, false≢true}
 use Rattle.sheet.specs.Model.{Sheet}
 use Rattle.protocol.specs.Places.{Place, Has}
@@ -10,7 +11,7 @@ use Rattle.protocol.specs.Actions.{Way, sends, receives, Timing, Action, turn}
 use Rattle.protocol.specs.Sets.{Silent, here, on, Acts, Start, Led, Successor}
 use Rattle.protocol.specs.Sound.{Reaches, now, later, Told, Sound}
 use Rattle.protocol.specs.Accepted.{HasPart}
-use Rattle.protocol.proofs.Turns.{nil_cons, Asked, asked, unasked, ask}
+use Rattle.protocol.proofs.Turns.{Asked, asked, unasked, ask}
 use Rattle.protocol.proofs.Listed.{places, has_from_listed, listed_from_has, every, any, if_so, every_true, any_true, if_true, index_of, member_at}
 use Rattle.protocol.proofs.Found.{Of, Is, Found, found_part}
 
@@ -311,7 +312,7 @@ module _ (sh : Sheet) (m : ℕ) where
             let p : Place = i.1.place in
             let e = every_true (λ p. if_so (inside X p.state) (idle (turn m p))) (places sh) r p (listed_from_has sh p i.1.has) in
             let z = idle_true (turn m p) (if_true (inside X p.state) (idle (turn m p)) e (subst (In X) (sym i.1.at) x)) in
-            absurd (nil_cons (sym z ∙ i.1.acts))
+            absurd cc
         go (inr r) =
             let z = any_true (λ u. eqb u t) X y in
             let w = every_true (inside reach) X r z.0 z.1 in
@@ -340,11 +341,6 @@ module _ (sh : Sheet) (m : ℕ) where
         let r = any_true (follows m (places sh) X l) sets h in
         (r.0, r.1, follows_true X l r.0 r.2)
 
-get_d_inside : (sets : List (List ℕ)) (i : ℕ) → get_or (map inside sets) i (λ _. false) ≡ inside (get_or sets i [])
-get_d_inside [] i = refl
-get_d_inside (X ∷ sets) zero = refl
-get_d_inside (X ∷ sets) (suc i) = get_d_inside sets i
-
 pub part_true : (sh : Sheet) (m : ℕ) (reach : List ℕ) (sets : List (List ℕ)) → part_of sh m reach sets ≡ true → HasPart sh m
 part_true sh m reach [] q = absurd (false≢true q)
 part_true sh m reach (X ∷ sets) q =
@@ -369,19 +365,19 @@ part_true sh m reach (X ∷ sets) q =
     found = record {
       any = omega arith;
       first = starts_true sh m X a.0;
-      sound = λ i l. subst (λ (f : ℕ → Bool). Sound sh m (λ s. f s ≡ true)) (sym (get_d_inside (X ∷ sets) i)) (sound_true sh m reach b.0 (X ∷ sets) (get_or (X ∷ sets) i []) (good_at i l));
+      sound = λ i l. subst (λ (f : ℕ → Bool). Sound sh m (λ s. f s ≡ true)) (sym (get_or-map inside (X ∷ sets) i [])) (sound_true sh m reach b.0 (X ∷ sets) (get_or (X ∷ sets) i []) (good_at i l));
       next = next;
     }
       where
         next : (i : ℕ) → i < length (map inside (X ∷ sets)) → (l t : ℕ) → Led sh m (Of (map inside (X ∷ sets)) i) l t → (j : ℕ) × (j < length (map inside (X ∷ sets))) × Is (map inside (X ∷ sets)) j (Successor sh m (Of (map inside (X ∷ sets)) i) l)
         next i n l t x =
             let Y : List ℕ = get_or (X ∷ sets) i [] in
-            let x' : Led sh m (In Y) l t = subst (λ (f : ℕ → Bool). Led sh m (λ s. f s ≡ true) l t) (get_d_inside (X ∷ sets) i) x in
+            let x' : Led sh m (In Y) l t = subst (λ (f : ℕ → Bool). Led sh m (λ s. f s ≡ true) l t) (get_or-map inside (X ∷ sets) i []) x in
             let r = next_true sh m reach b.0 (X ∷ sets) Y (good_at i n) l t x' in
             let k = index_of (X ∷ sets) [] r.0 r.1 in
-            let e : get_or (map inside (X ∷ sets)) k.0 (λ _. false) ≡ inside r.0 = get_d_inside (X ∷ sets) k.0 ∙ ap inside k.2 in (
+            let e : get_or (map inside (X ∷ sets)) k.0 (λ _. false) ≡ inside r.0 = get_or-map inside (X ∷ sets) k.0 [] ∙ ap inside k.2 in (
               k.0,
               (let z = length-map (X ∷ sets) inside in let w : k.0 < length (X ∷ sets) = k.1 in omega arith),
               λ s. subst (λ (f : ℕ → Bool). Decides (f s) (Successor sh m (Of (map inside (X ∷ sets)) i) l s)) (sym e)
-                  (subst (λ (f : ℕ → Bool). Decides (inside r.0 s) (Successor sh m (λ s. f s ≡ true) l s)) (sym (get_d_inside (X ∷ sets) i)) (r.2 s)),
+                  (subst (λ (f : ℕ → Bool). Decides (inside r.0 s) (Successor sh m (λ s. f s ≡ true) l s)) (sym (get_or-map inside (X ∷ sets) i [])) (r.2 s)),
             )

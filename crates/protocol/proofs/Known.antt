@@ -1,5 +1,5 @@
 -- What validity says of the places of a sheet.
-use Rattle.std.proofs.Common.{◌≡◌, ℕ, zero, suc, ◌<◌, ◌≤◌, ◌≢◌, ◌⊎◌, List, [], ◌∷◌, length, get_or, sym, ap, ◌∙◌, subst, inl, inr, arith}
+use Rattle.std.proofs.Common.{◌≡◌, ℕ, ◌<◌, ◌≤◌, ◌≢◌, ◌⊎◌, List, [], ◌∷◌, length, get_or, sym, ap, ◌∙◌, subst, inl, inr, arith}
 use mathlib.Core.List.{Memᴰ}
 use Rattle.std.specs.List.{AllByRecursion}
 use Rattle.std.proofs.lemmas.List.{get_or_past}
@@ -11,22 +11,16 @@ use Rattle.sheet.specs.Valid.{GoodBranch, blank, Rising, GoodExchange, GoodState
 use Rattle.protocol.specs.Places.{Place, Has}
 use Rattle.protocol.specs.Actions.{Action, turn, sending, receiving}
 use Rattle.protocol.specs.Sets.{Acts}
-use Rattle.protocol.proofs.Turns.{Side, as_sender, as_receiver, aside, side, nil_cons, cons_head, asked_label}
+use Rattle.protocol.proofs.Turns.{Side, as_sender, as_receiver, aside, side, asked_label}
+use Rattle.protocol.proofs.Listed.{place_at, index_of}
 
-all_member : {X : Type 0} (P : X → Type 0) (xs : List X) (x : X) → AllByRecursion P xs → Memᴰ x xs → P x
-all_member P [] x all i = elim i [ ]
-all_member P (y ∷ xs) x all (Memᴰ.head q) = subst P (sym q) all.0
-all_member P (y ∷ xs) x all (Memᴰ.tail i) = all_member P xs x all.1 i
-
--- where a member stands
-place_of_member : (bs : List Branch) (b : Branch) → Memᴰ b bs → (i : ℕ) × (i < length bs) × (get_or bs i blank ≡ b)
-place_of_member [] b i = elim i [ ]
-place_of_member (c ∷ bs) b (Memᴰ.head q) = (zero, omega arith, sym q)
-place_of_member (c ∷ bs) b (Memᴰ.tail i) = let r = place_of_member bs b i in (suc r.0, omega (arith, r.1), r.2)
+-- what holds of each element holds of a member
+pub all_member : {X : Type 0} (P : X → Type 0) (xs : List X) (x : X) → AllByRecursion P xs → Memᴰ x xs → P x
+all_member P xs x all i = let k = index_of xs x x i in subst P k.2 (All-get_or P xs k.0 x k.1 all)
 
 -- within a state the label determines the branch
 branch_from_label : (bs : List Branch) → Rising bs → (b c : Branch) → Memᴰ b bs → Memᴰ c bs → b.label ≡ c.label → b ≡ c
-branch_from_label bs rising b c i j l = go (place_of_member bs b i) (place_of_member bs c j)
+branch_from_label bs rising b c i j l = go (index_of bs blank b i) (index_of bs blank c j)
   where
     go : (i : ℕ) × (i < length bs) × (get_or bs i blank ≡ b) → (j : ℕ) × (j < length bs) × (get_or bs j blank ≡ c) → b ≡ c
     go x y = pick (cases_order x.0 y.0)
@@ -48,19 +42,13 @@ same_exchange sh p q hp hq e =
     let z : exchange p.sender p.receiver hp.branches ≡ exchange q.sender q.receiver hq.branches = sym hp.stands ∙ rw e hq.stands in
     (cc, cc, cc)
 
-abbrev place_at : ℕ → ℕ → ℕ → Branch → Place
-place_at s a b c = record { state = s; sender = a; receiver = b; branch = c }
-
 module _ (sh : Sheet) (valid : Valid sh) where
   pub good_exchange : (p : Place) (h : Has sh p) → GoodExchange sh p.sender p.receiver h.branches
   good_exchange p h = go (cases_lt p.state (length sh.states))
     where
       go : (p.state < length sh.states) ⊎ (length sh.states ≤ p.state) → GoodExchange sh p.sender p.receiver h.branches
       go (inl l) = subst (GoodState sh) h.stands (All-get_or (GoodState sh) sh.states p.state ended l valid.good_states)
-      go (inr l) =
-          let e : ended ≡ exchange p.sender p.receiver h.branches = sym (get_or_past sh.states p.state ended l) ∙ h.stands in
-          let z : ◌≡◌ {A = ℕ} 0 1 = cc in
-          absurd (omega arith)
+      go (inr l) = let e = get_or_past sh.states p.state ended l in absurd cc
 
   pub good_branch : (p : Place) → Has sh p → GoodBranch sh p.branch
   good_branch p h = all_member (GoodBranch sh) h.branches p.branch (good_exchange p h).good h.among
@@ -95,7 +83,7 @@ module _ (sh : Sheet) (valid : Valid sh) where
       let q : Place = y.1.place in
       let pl : p.branch.label ≡ q.branch.label = sym (asked_label m p a x.1.acts) ∙ l ∙ asked_label m q b y.1.acts in
       let e : p ≡ q = same_place p q x.1.has y.1.has (x.1.at ∙ sym y.1.at) pl in
-      cons_head (sym x.1.acts ∙ ap (turn m) e ∙ y.1.acts)
+      cc
 
   -- what an action names is in range
   pub action_known : (m : ℕ) (p : Place) → Has sh p → (a : Action) → turn m p ≡ a ∷ [] →
@@ -104,9 +92,9 @@ module _ (sh : Sheet) (valid : Valid sh) where
     where
       go : Side m p → (m < length sh.roles) × (a.partner < length sh.roles) × (m ≢ a.partner) × (a.label < length sh.labels)
       go (as_sender q u) =
-          let is : sending p ≡ a = cons_head (sym u ∙ t) in
+          let is : sending p ≡ a = cc in
           (rw q (sender_known p h), rw (← is) (receiver_known p h), rw (← is, q) (apart p h), rw (← is) (label_known p h))
       go (as_receiver _ q u) =
-          let is : receiving p ≡ a = cons_head (sym u ∙ t) in
+          let is : receiving p ≡ a = cc in
           (rw q (receiver_known p h), rw (← is) (sender_known p h), rw (← is, q) (λ e. apart p h (sym e)), rw (← is) (label_known p h))
-      go (aside _ _ u) = absurd (nil_cons (sym u ∙ t))
+      go (aside _ _ u) = absurd cc

@@ -29,21 +29,11 @@ record At (s : ℕ) (xs : List State) (p : Place) : Type 0 where
   stands : get_or xs index ended ≡ exchange p.sender p.receiver branches
   among : Memᴰ p.branch branches
 
-mem_of : (s a b : ℕ) (bs : List Branch) (p : Place) → Memᴰ p (map (place_at s a b) bs) → (p.state ≡ s) × (p.sender ≡ a) × (p.receiver ≡ b) × Memᴰ p.branch bs
-mem_of s a b [] p i = elim i [ ]
-mem_of s a b (c ∷ bs) p (Memᴰ.head q) = (ap (λ (z : Place). z.state) q, ap (λ (z : Place). z.sender) q, ap (λ (z : Place). z.receiver) q, Memᴰ.head (ap (λ (z : Place). z.branch) q))
-mem_of s a b (c ∷ bs) p (Memᴰ.tail i) = let r = mem_of s a b bs p i in (r.0, r.1, r.2, Memᴰ.tail r.3)
-
-of_mem : (s a b : ℕ) (bs : List Branch) (c : Branch) → Memᴰ c bs → Memᴰ (place_at s a b c) (map (place_at s a b) bs)
-of_mem s a b (x ∷ bs) c (Memᴰ.head q) = Memᴰ.head (ap (place_at s a b) q)
-of_mem s a b (x ∷ bs) c (Memᴰ.tail i) = Memᴰ.tail (of_mem s a b bs c i)
-of_mem s a b [] c i = elim i [ ]
-
 here_at : (s : ℕ) (x : State) (xs : List State) (p : Place) → Memᴰ p (places_of s x) → At s (x ∷ xs) p
 here_at s ended xs p i = elim i [ ]
 here_at s (exchange a b bs) xs p i =
-    let r = mem_of s a b bs p i in
-    record { index = 0; state = r.0 ∙ (omega arith); branches = bs; stands = rw (r.1, r.2) refl; among = r.3 }
+    let r = Memᴰ.of_map (place_at s a b) bs i in
+    record { index = 0; state = ap (λ (z : Place). z.state) (sym r.2) ∙ (omega arith); branches = bs; stands = ap (λ (z : Place). exchange z.sender z.receiver bs) r.2; among = Memᴰ.cast (ap (λ (z : Place). z.branch) (sym r.2)) r.1 }
 
 from_at : (s : ℕ) (xs : List State) (p : Place) → Memᴰ p (places_numbered s xs) → At s xs p
 from_at s [] p i = elim i [ ]
@@ -57,9 +47,9 @@ from_at s (x ∷ xs) p i = go (λ j. from_at (suc s) xs p j) (Memᴰ.append_case
         record { index = suc r.index; state = omega arith; branches = r.branches; stands = r.stands; among = r.among }
 
 to_at : (s : ℕ) (xs : List State) (k a b : ℕ) (bs : List Branch) (c : Branch) → get_or xs k ended ≡ exchange a b bs → Memᴰ c bs → Memᴰ (place_at (s + k) a b c) (places_numbered s xs)
-to_at s [] k a b bs c q i = absurd (let z : ◌≡◌ {A = ℕ} 0 1 = cc in omega arith)
+to_at s [] k a b bs c q i = absurd cc
 to_at s (x ∷ xs) zero a b bs c q i =
-    Memᴰ.append_left (places_numbered (suc s) xs) (subst (λ (z : State). Memᴰ (place_at (s + 0) a b c) (places_of s z)) (sym q) (subst (λ (n : ℕ). Memᴰ (place_at n a b c) (map (place_at s a b) bs)) (omega arith) (of_mem s a b bs c i)))
+    Memᴰ.append_left (places_numbered (suc s) xs) (subst (λ (z : State). Memᴰ (place_at (s + 0) a b c) (places_of s z)) (sym q) (subst (λ (n : ℕ). Memᴰ (place_at n a b c) (map (place_at s a b) bs)) (omega arith) (Memᴰ.map (place_at s a b) i)))
 to_at s (x ∷ xs) (suc k) a b bs c q i =
     Memᴰ.append_right (places_of s x) (subst (λ (n : ℕ). Memᴰ (place_at n a b c) (places_numbered (suc s) xs)) (omega arith) (to_at (suc s) xs k a b bs c q i))
 

@@ -9,7 +9,7 @@ use Rattle.protocol.specs.Sets.{here, Step, Acts, Start, Led, Successor, After, 
 use Rattle.protocol.specs.Sound.{OneSide, SameOffer, NoClash}
 use Rattle.protocol.specs.Accepted.{HasPart}
 use Rattle.protocol.specs.Projection.{Move, move, moves, label_of, labels, Does, Played, BeginsShare, LeadsTo, OneSided, LabelDetermines, PartIsProjection, LabelsAlwaysSuffice, PartsProject}
-use Rattle.protocol.proofs.Turns.{cons_head, cons_tail, nil_cons, Asked, asked, unasked, ask, same_action}
+use Rattle.protocol.proofs.Turns.{Asked, asked, unasked, ask, same_action}
 use Rattle.protocol.proofs.Known.{same_step}
 use Rattle.protocol.proofs.Closures.{Closed, silent_closed}
 use Rattle.protocol.proofs.Walks.{Walk, silent_walk, walk_append, led_walk}
@@ -133,15 +133,15 @@ followed_played sh m X (l ∷ ls) f =
 
 one_played : (sh : Sheet) (m : ℕ) (X : ℕ → Type 0) → OneSidedFrom sh m X → (vs ws : List Move) → Played sh m X vs → Played sh m X ws → labels vs ≡ labels ws → vs ≡ ws
 one_played sh m X one [] [] p q e = refl
-one_played sh m X one [] (w ∷ ws) p q e = absurd (nil_cons e)
-one_played sh m X one (v ∷ vs) [] p q e = absurd (nil_cons (sym e))
+one_played sh m X one [] (w ∷ ws) p q e = cc
+one_played sh m X one (v ∷ vs) [] p q e = cc
 one_played sh m X one (v ∷ vs) (w ∷ ws) p q e =
     let d = p.0 in
     let c = q.0 in
     let led = does_led sh m X v d in
-    let l : v.label ≡ w.label = cons_head e in
+    let l : v.label ≡ w.label = cc in
     let is : v ≡ w = sym d.is ∙ one_move sh m X (one [] tt) d.state c.state d.inside c.inside d.action c.action d.acts c.acts (ap label_of d.is ∙ l ∙ sym (ap label_of c.is)) ∙ c.is in
-    let rest : vs ≡ ws = one_played sh m (Successor sh m X v.label) (one_sided_next sh m X one v.label led.0 led.1) vs ws p.1 (rw l q.1) (cons_tail e) in
+    let rest : vs ≡ ws = one_played sh m (Successor sh m X v.label) (one_sided_next sh m X one v.label led.0 led.1) vs ws p.1 (rw l q.1) (cc) in
     ap₂ (λ (x : Move) (y : List Move). x ∷ y) is rest
 
 pub suffice : LabelsAlwaysSuffice

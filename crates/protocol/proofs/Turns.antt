@@ -1,17 +1,8 @@
 -- What a place asks of a role: to send, to receive, or nothing.
-use Rattle.std.proofs.Common.{◌≡◌, ℕ, eqb, ◌≢◌, ◌⊎◌, List, [], ◌∷◌, sym, ap, ◌∙◌, inl, inr, arith}
+use Rattle.std.proofs.Common.{◌≡◌, ℕ, eqb, ◌≢◌, ◌⊎◌, [], ◌∷◌, ◌∙◌, inl, inr}
 use Rattle.std.proofs.lemmas.Bool.{cond-true, cond-false, eq-eqb, ne_eqb, cases_eq}
 use Rattle.protocol.specs.Places.{Place}
-use Rattle.protocol.specs.Actions.{Way, sends, receives, Timing, Action, sending, receiving, turn}
-
-pub cons_head : {A : Type 0} {x y : A} {xs ys : List A} → ◌≡◌ {A = List A} (x ∷ xs) (y ∷ ys) → x ≡ y
-cons_head e = cc
-
-pub cons_tail : {A : Type 0} {x y : A} {xs ys : List A} → ◌≡◌ {A = List A} (x ∷ xs) (y ∷ ys) → xs ≡ ys
-cons_tail e = cc
-
-pub nil_cons : {A : Type 0} {x : A} {xs : List A} → ◌≡◌ {A = List A} [] (x ∷ xs) → ⊥
-nil_cons e = let z : ◌≡◌ {A = ℕ} 0 1 = cc in omega arith
+use Rattle.protocol.specs.Actions.{Way, Timing, Action, sending, receiving, turn}
 
 pub turn_sender : (m : ℕ) (p : Place) → m ≡ p.sender → turn m p ≡ sending p ∷ []
 unfolding turn
@@ -59,21 +50,9 @@ pub asked_label : (m : ℕ) (p : Place) (a : Action) → turn m p ≡ a ∷ [] �
 asked_label m p a t = go (side m p)
   where
     go : Side m p → a.label ≡ p.branch.label
-    go (as_sender _ u) = ap (λ (x : Action). x.label) (cons_head (sym t ∙ u))
-    go (as_receiver _ _ u) = ap (λ (x : Action). x.label) (cons_head (sym t ∙ u))
-    go (aside _ _ u) = absurd (nil_cons (sym u ∙ t))
-
--- one who sends is the sender, one who receives the receiver
-pub who_sends : (m : ℕ) (p : Place) (a : Action) → turn m p ≡ a ∷ [] → a.way ≡ sends → (m ≡ p.sender) × (a ≡ sending p)
-who_sends m p a t w = go (side m p)
-  where
-    go : Side m p → (m ≡ p.sender) × (a ≡ sending p)
-    go (as_sender q u) = (q, cons_head (sym t ∙ u))
-    go (as_receiver _ _ u) =
-        let v : receives ≡ sends = sym (ap (λ (x : Action). x.way) (cons_head (sym t ∙ u))) ∙ w in
-        let z : ◌≡◌ {A = ℕ} 0 1 = cc in
-        absurd (omega arith)
-    go (aside _ _ u) = absurd (nil_cons (sym u ∙ t))
+    go (as_sender _ u) = cc
+    go (as_receiver _ _ u) = cc
+    go (aside _ _ u) = cc
 
 abbrev make_action : Way → ℕ → ℕ → Timing → Action
 make_action w k l t = record { way = w; partner = k; label = l; timing = t }

@@ -27,23 +27,19 @@ rising_late o (e ∷ es) r =
     (omega arith, (x.0, x.1))
 
 -- what holds of all events holds of those that are kept
+one_kept : (P : Event → Type 0) (b : Bool) (e : Event) → P e → AllByRecursion P (cond b (e ∷ []) [])
+one_kept P true e p = (p, tt)
+one_kept P false e p = tt
+
 pub all_own : (P : Event → Type 0) (m : ℕ) (es : List Event) → AllByRecursion P es → AllByRecursion P (own m es)
 unfolding mine
 all_own P m [] k = tt
-all_own P m (e ∷ es) k = All-append P (mine m e) (own m es) (kept (eqb m e.role)) (all_own P m es k.1)
-  where
-    kept : (b : Bool) → AllByRecursion P (cond b (e ∷ []) [])
-    kept true = (k.0, tt)
-    kept false = tt
+all_own P m (e ∷ es) k = All-append P (mine m e) (own m es) (one_kept P (eqb m e.role) e k.0) (all_own P m es k.1)
 
 all_exchanged : (P : Event → Type 0) (w : Way) (n : ℕ) (es : List Event) → AllByRecursion P es → AllByRecursion P (exchanged w n es)
 unfolding along
 all_exchanged P w n [] k = tt
-all_exchanged P w n (e ∷ es) k = All-append P (along w n e) (exchanged w n es) (kept (eqb (direction_of w) e.direction && eqb n e.partner)) (all_exchanged P w n es k.1)
-  where
-    kept : (b : Bool) → AllByRecursion P (cond b (e ∷ []) [])
-    kept true = (k.0, tt)
-    kept false = tt
+all_exchanged P w n (e ∷ es) k = All-append P (along w n e) (exchanged w n es) (one_kept P (eqb (direction_of w) e.direction && eqb n e.partner) e k.0) (all_exchanged P w n es k.1)
 
 waiting_late : (t : ℕ) (a b : ℕ) (es : List Event) → AllByRecursion (λ e. e.tick ≤ t) es → AllByRecursion (λ (x : Message). x.tick ≤ t) (waiting a b es)
 unfolding waiting
@@ -88,15 +84,12 @@ module _ (sh : Sheet) (book : Book) (o d : ℕ) (es : List Event) (e : Event) (r
       go (longer v x y) = absurd (clash a e.role b e.partner (not-sent v) x y)
       go (shorter v x y) = absurd (clash a e.partner b e.role (not_taken v) x y)
 
-  apart_ways : {A : Type 0} → sends ≡ receives → A
-  apart_ways q = let z : ◌≡◌ {A = ℕ} 0 1 = ap direction_of q in absurd (omega arith)
-
   one_more : OneMore es e
   one_more = record {
     sending = λ q. step sends q e.role e.partner ∙ after_longer (λ a b. waiting a b es) e e.role e.partner refl refl;
     taking = taking;
-    sending_keeps = λ q a b n. kept sends q a b (λ v. n) (λ v. apart_ways v);
-    taking_keeps = λ q a b n. kept receives q a b (λ v. apart_ways (sym v)) (λ v. n);
+    sending_keeps = λ q a b n. kept sends q a b (λ v. n) (λ v. absurd cc);
+    taking_keeps = λ q a b n. kept receives q a b (λ v. absurd cc) (λ v. n);
     direction = direction_small e (way_of sh book o d es e r).0 (way_of sh book o d es e r).1;
   }
     where

@@ -1,8 +1,6 @@
 -- The third and the fourth point of a run for one role, read together from the left.
-use Rattle.std.proofs.Common.{ℕ, suc, ◌-◌, cond, List, [], ◌∷◌, refl, ap, subst₂, arith}
-use native.Mathlib.Nat.{suc_inj}
+use Rattle.std.proofs.Common.{◌≡◌, ℕ, suc, ◌-◌, cond, List, [], ◌∷◌, refl, ap, subst₂, arith}
 use Rattle.protocol.specs.Actions.{Timing, Action}
-use Rattle.protocol.proofs.Turns.{cons_head, cons_tail, nil_cons}
 use Rattle.events.specs.declared.event.Event.{Event}
 use Rattle.runs.specs.Run.{Book, Admits, Fits, Beginning, timings, last_reset, Timely}
 
@@ -18,15 +16,17 @@ beginning book c (e ∷ es) [] f = f
 beginning book c (e ∷ es) (a ∷ actions) f = (f.0, beginning book (cond a.timing.reset e.tick c) es actions f.2)
 
 pub timely : (book : Book) (c : ℕ) (es : List Event) (actions : List Action) → Follows book c es actions → Timely book c es (timings actions)
-timely book c [] actions f [] after e q us vs t q' l = absurd (nil_cons q)
-timely book c [] actions f (x ∷ xs) after e q us vs t q' l = absurd (nil_cons q)
+timely book c [] actions f [] after e q us vs t q' l = absurd cc
+timely book c [] actions f (x ∷ xs) after e q us vs t q' l = absurd cc
 timely book c (x ∷ es) [] f before after e q us vs t q' l = absurd f
-timely book c (x ∷ es) (y ∷ actions) f [] after e q [] vs t q' l = subst₂ (λ (u : Timing) (v : Event). Admits book u (v.tick - c)) (cons_head q') (cons_head q) f.1
+timely book c (x ∷ es) (y ∷ actions) f [] after e q [] vs t q' l = let same : y.timing ≡ t = cc in let this : x ≡ e = cc in subst₂ (λ (u : Timing) (v : Event). Admits book u (v.tick - c)) same this f.1
 timely book c (x ∷ es) (y ∷ actions) f [] after e q (u ∷ us) vs t q' l = absurd (omega arith)
 timely book c (x ∷ es) (y ∷ actions) f (z ∷ before) after e q [] vs t q' l = absurd (omega arith)
 timely book c (x ∷ es) (y ∷ actions) f (z ∷ before) after e q (u ∷ us) vs t q' l =
-    subst₂ (λ (r : Timing) (v : Event). Admits book t (e.tick - last_reset (cond r.reset v.tick c) before us)) (cons_head q') (cons_head q)
-    (timely book (cond y.timing.reset x.tick c) es actions f.2 before after e (cons_tail q) us vs t (cons_tail q') (suc_inj l))
+    let same : y.timing ≡ u = cc in
+    let this : x ≡ z = cc in
+    subst₂ (λ (r : Timing) (v : Event). Admits book t (e.tick - last_reset (cond r.reset v.tick c) before us)) same this
+    (timely book (cond y.timing.reset x.tick c) es actions f.2 before after e (cc) us vs t (cc) (cc))
 
 pub follows : (book : Book) (c : ℕ) (es : List Event) (actions : List Action) → Beginning es actions → Timely book c es (timings actions) → Follows book c es actions
 follows book c [] actions b t = tt

@@ -1,5 +1,5 @@
 -- Closing: all roles are finished exactly when the events are all of a path to an end.
-use Rattle.std.proofs.Common.{◌≡◌, ℕ, ◌<◌, ◌≤◌, ◌⊎◌, List, [], ◌∷◌, length, get_or, sym, refl, ap, ◌∙◌, subst, inl, inr, arith}
+use Rattle.std.proofs.Common.{◌≡◌, ℕ, ◌<◌, ◌≤◌, ◌⊎◌, List, [], ◌∷◌, length, get_or, refl, subst, inl, inr, arith}
 use mathlib.Core.List.Memᴰ
 use Rattle.std.proofs.lemmas.List.{get_or_past}
 use Rattle.std.proofs.ByRecursion.{All-get_or}
@@ -25,16 +25,10 @@ use Rattle.runs.proofs.Rebuild.{Goal}
 use Rattle.runs.proofs.Agree.{on_path, path_for}
 use Rattle.runs.proofs.Shares.{path_inside}
 
-ended_no_place : {A : Type 0} (a b : ℕ) (bs : List Branch) → ended ≡ exchange a b bs → A
-ended_no_place a b bs e = let z : ◌≡◌ {A = ℕ} 0 1 = cc in absurd (omega arith)
-
 -- from an end nothing is reached
 pub end_reaches : (sh : Sheet) (m s : ℕ) → get_or sh.states s ended ≡ ended → Reaches sh m s → ⊥
-end_reaches sh m s q (now a i) =
-    let step = i.1 in
-    ended_no_place step.place.sender step.place.receiver step.has.branches (sym q ∙ ap (λ (n : ℕ). get_or sh.states n ended) (sym step.at) ∙ step.has.stands)
-end_reaches sh m s q (later p hp ps l) =
-    ended_no_place p.sender p.receiver hp.branches (sym q ∙ ap (λ (n : ℕ). get_or sh.states n ended) (sym ps) ∙ hp.stands)
+end_reaches sh m s q (now a i) = cc (i.1.at, i.1.has.stands)
+end_reaches sh m s q (later p hp ps l) = cc (ps, hp.stands)
 
 -- a state in which no role acts is an end
 still_end : (sh : Sheet) → Valid sh → (s : ℕ) → ((m : ℕ) → m < length sh.roles → (a : Action) → Acts sh m s a → ⊥) → get_or sh.states s ended ≡ ended

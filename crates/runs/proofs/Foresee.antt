@@ -11,13 +11,14 @@ use Rattle.runs.specs.Laws.{Least, CouldPass, Could, Foresees, Foresight, Keepin
 use Rattle.runs.proofs.Agree.{stands_agrees, reached_stands, opened_stands, passes_stands}
 use Rattle.runs.proofs.Growth.{rising_last}
 
-least_like : (P Q : ℕ → Type 0) → ((u : ℕ) → P u → Q u) → ((u : ℕ) → Q u → P u) → (low high : ℕ) (answer : Option ℕ) → Least P low high answer → Least Q low high answer
-least_like P Q f g low high None l = λ u x y q. l u x y (g u q)
-least_like P Q f g low high (Some t) l = (l.0, l.1, f t l.2, λ u x y q. l.3 u x y (g u q))
+-- predicates that agree from the low end on have the same least value
+pub least_by : (P Q : ℕ → Type 0) (low high : ℕ) → ((u : ℕ) → low ≤ u → P u → Q u) → ((u : ℕ) → low ≤ u → Q u → P u) → (answer : Option ℕ) → Least P low high answer → Least Q low high answer
+least_by P Q low high f g None l = λ u x y q. l u x y (g u x q)
+least_by P Q low high f g (Some t) l = (l.0, l.1, f t l.0 l.2, λ u x y q. l.3 u x y (g u x q))
 
 pub stands_foresees : (sh : Sheet) (book : Book) → Valid sh → AllSteady sh → (o d : ℕ) (es : List Event) (σ : Monitor) → Stands sh book o d es σ → (m : ℕ) → Foresees sh book o d es σ m
 stands_foresees sh book valid steady o d es σ k m = record {
-  least = λ high answer. (least_like P Q there back σ.latest high answer, least_like Q P back there σ.latest high answer);
+  least = λ high answer. (least_by P Q σ.latest high (λ u _. there u) (λ u _. back u) answer, least_by Q P σ.latest high (λ u _. back u) (λ u _. there u) answer);
   from_latest = λ t x. subst (λ (n : ℕ). n ≤ t) (sym k.latest) (subst (λ (n : ℕ). last ≤ n) x.2 (rising_last o es x.0 x.3.ticks));
 }
   where

@@ -1,12 +1,11 @@
 -- One event more: ticks, roles, channels and what waits in them.
 use Rattle.std.proofs.Common.{◌≡◌, ℕ, ◌+◌, ◌-◌, ◌<◌, ◌≤◌, false, ◌&&◌, eqb, ◌⊎◌, List, [], ◌∷◌, ◌++◌, map, length, drop, sym, refl, ap, ◌∙◌, subst, ap₂, inl, inr, append_assoc, append-nil, arith, length-append}
-use mathlib.Core.List.{append_cancel_left, map-append}
+use mathlib.Core.List.{append_cancel_left, map-append, map-map}
 use lib.ListN.{length-map}
 use Rattle.std.specs.List.{AllByRecursion}
 use Rattle.std.proofs.lemmas.List.{drop_at, drop-drop, drop-append-le, drop-map, length-drop}
 use Rattle.std.proofs.lemmas.Bool.{cond-true, cond-false, eq-eqb, ne_eqb, cases_eq, and_from, and_left, and_right}
 use Rattle.protocol.specs.Actions.{Way, sends, receives}
-use Rattle.protocol.proofs.Turns.{cons_head, cons_tail, nil_cons}
 use Rattle.events.specs.declared.event.Event.{Event}
 use Rattle.runs.specs.Events.{direction_of, sent, taken, label_of, labels}
 use Rattle.runs.specs.Run.{Rising, InOrder, Channels}
@@ -90,10 +89,6 @@ after_like f g e receives a b q = rw q
 abbrev pub texts : List Message → List ℕ
 texts ms = map (λ (x : Message). x.label) ms
 
-texts_messages : (es : List Event) → texts (map message es) ≡ labels es
-texts_messages [] = refl
-texts_messages (e ∷ es) = ap (λ (z : List ℕ). e.label ∷ z) (texts_messages es)
-
 pub waiting_length : (a b : ℕ) (es : List Event) → length (waiting a b es) ≡ length (sent a b es) - length (taken a b es)
 unfolding waiting
 waiting_length a b es = length-drop (length (taken a b es)) (map message (sent a b es)) ∙ ap (λ (n : ℕ). n - length (taken a b es)) (length-map (sent a b es) message)
@@ -103,7 +98,7 @@ pub waiting_labels : (depth : ℕ) (a b : ℕ) (es : List Event) → InOrder dep
 unfolding waiting
 waiting_labels depth a b es o =
     let n : ℕ = length (taken a b es) in
-    let t : texts (waiting a b es) ≡ drop n (labels (sent a b es)) = sym (drop-map (λ (x : Message). x.label) n (map message (sent a b es))) ∙ ap (drop n) (texts_messages (sent a b es)) in
+    let t : texts (waiting a b es) ≡ drop n (labels (sent a b es)) = sym (drop-map (λ (x : Message). x.label) n (map message (sent a b es))) ∙ ap (drop n) (map-map (λ (x : Message). x.label) message (sent a b es)) in
     let r : drop n (labels (sent a b es)) ≡ o.0.0 = ap (drop n) o.0.1 ∙ drop_at (labels (taken a b es)) o.0.0 n (length-map (taken a b es) label_of) in
     o.0.1 ∙ ap (λ (z : List ℕ). labels (taken a b es) ++ z) (sym (t ∙ r))
 
@@ -178,8 +173,8 @@ module _ (depth : ℕ) (es : List Event) (e : Event) (w : Way) (d : e.direction 
   fit_from after = go w refl
     where
       oldest : (ms : List Message) (rest : List ℕ) → texts ms ≡ e.label ∷ rest → (x : Message) × (xs : List Message) × (ms ≡ x ∷ xs) × (x.label ≡ e.label)
-      oldest [] rest q = absurd (nil_cons q)
-      oldest (x ∷ xs) rest q = (x, xs, refl, cons_head q)
+      oldest [] rest q = absurd cc
+      oldest (x ∷ xs) rest q = (x, xs, refl, cc)
 
       go : (v : Way) → w ≡ v → Fit depth es e v
       go sends q =
@@ -207,13 +202,13 @@ channels_now depth es channels = channels es [] (sym (append-nil es))
 -- a beginning of a list with one more
 split_push : (es : List Event) (e : Event) (front back : List Event) → es ++ (e ∷ []) ≡ front ++ back → (front ≡ es ++ (e ∷ [])) ⊎ ((rest : List Event) × (es ≡ front ++ rest))
 split_push es e [] back q = inr (es, refl)
-split_push [] e (x ∷ []) back q = inl (ap (λ (z : Event). z ∷ []) (sym (cons_head q)))
-split_push [] e (x ∷ (y ∷ front)) back q = absurd (nil_cons (cons_tail q))
-split_push (y ∷ es) e (x ∷ front) back q = go (split_push es e front back (cons_tail q))
+split_push [] e (x ∷ []) back q = inl cc
+split_push [] e (x ∷ (y ∷ front)) back q = absurd cc
+split_push (y ∷ es) e (x ∷ front) back q = go (split_push es e front back (cc))
   where
     go : (front ≡ es ++ (e ∷ [])) ⊎ ((rest : List Event) × (es ≡ front ++ rest)) → (x ∷ front ≡ (y ∷ es) ++ (e ∷ [])) ⊎ ((rest : List Event) × (y ∷ es ≡ (x ∷ front) ++ rest))
-    go (inl r) = inl (ap₂ (λ (u : Event) (v : List Event). u ∷ v) (sym (cons_head q)) r)
-    go (inr r) = inr (r.0, ap₂ (λ (u : Event) (v : List Event). u ∷ v) (cons_head q) r.1)
+    go (inl r) = inl cc
+    go (inr r) = inr (r.0, cc)
 
 pub channels_push : (depth : ℕ) (es : List Event) (e : Event) → Channels depth es → ((a b : ℕ) → InOrder depth (es ++ (e ∷ [])) a b) → Channels depth (es ++ (e ∷ []))
 channels_push depth es e channels last front back q a b = go (split_push es e front back q)
@@ -227,4 +222,4 @@ channels_front depth front back channels g r q a b = channels g (r ++ back) (ap 
 
 pub channels_none : (depth : ℕ) → Channels depth []
 channels_none depth [] back q a b = (([], refl), omega arith)
-channels_none depth (x ∷ front) back q a b = absurd (nil_cons q)
+channels_none depth (x ∷ front) back q a b = absurd cc

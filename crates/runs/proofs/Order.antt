@@ -2,7 +2,6 @@
 use Rattle.std.proofs.Common.{◌≡◌, ℕ, ◌≢◌, ◌⊎◌, List, [], ◌∷◌, ◌++◌, sym, refl, ap, ◌∙◌, subst₂, inl, inr}
 use Rattle.std.proofs.lemmas.Bool.{cases_eq}
 use Rattle.protocol.specs.Actions.{sends, receives}
-use Rattle.protocol.proofs.Turns.{cons_head, cons_tail, nil_cons}
 use Rattle.events.specs.declared.event.Event.{Event}
 use Rattle.runs.specs.Events.{direction_of, own, exchanged, sent, taken, labels}
 use Rattle.runs.specs.Run.{Begins}
@@ -17,14 +16,10 @@ abbrev pub AlwaysFifo : List Event → Type 0
 AlwaysFifo es = (g : List Event) → Front g es → Fifo g
 
 begins_tail : (l : ℕ) (xs ys : List ℕ) → Begins (l ∷ xs) (l ∷ ys) → Begins xs ys
-begins_tail l xs ys b = (b.0, cons_tail b.1)
+begins_tail l xs ys b = (b.0, cc)
 
 begins_head : (l k : ℕ) (xs ys : List ℕ) → Begins (l ∷ xs) (k ∷ ys) → l ≡ k
-begins_head l k xs ys b = sym (cons_head b.1)
-
--- nothing is taken by a role without events
-taken_none : (a b : ℕ) (es : List Event) → own b es ≡ [] → taken a b es ≡ []
-taken_none a b es none = ap (exchanged receives a) none
+begins_head l k xs ys b = cc
 
 -- e is the oldest sending from A to B, which goes
 module _ (A B : ℕ) (apart : A ≢ B) (es rest : List Event) (e : Event) (w : Less A e es rest) (direction : e.direction ≡ direction_of sends) (partner : e.partner ≡ B) (fifo : Fifo es) where
@@ -82,7 +77,7 @@ front_own m g es b q = none (own m g) (own m b.0) (sym (own_append m g b.0) ∙ 
   where
     none : (xs ys : List Event) → xs ++ ys ≡ [] → xs ≡ []
     none [] ys r = refl
-    none (x ∷ xs) ys r = absurd (nil_cons (sym r))
+    none (x ∷ xs) ys r = cc
 
 -- the same at every moment
 module _ (A B : ℕ) (apart : A ≢ B) (es : List Event) (e : Event) (r : List Event) (w : Without A es e r) (direction : e.direction ≡ direction_of sends) (partner : e.partner ≡ B) (fifo : AlwaysFifo es) where
@@ -100,7 +95,7 @@ module _ (A B : ℕ) (apart : A ≢ B) (es : List Event) (e : Event) (r : List E
         let b = fifo k x.0 A B in
         let s : labels (sent A B k) ≡ [] = ap (λ (z : List Event). labels (exchanged sends B z)) x.1 in
         let t : labels (taken A B k) ≡ f.label ∷ labels (taken A B g) = ap labels (less_hit B f k g l receives A f-direction f-partner) in
-        absurd (nil_cons (sym s ∙ b.1 ∙ ap (λ (z : List ℕ). z ++ b.0) t))
+        absurd cc
     two_at g k l (inr x) = fifo_two A B apart x.0 k e x.2 direction partner (fifo x.0 x.1) g f l f-direction f-partner
 
     pub always_two : AlwaysFifo u.rest
@@ -116,4 +111,4 @@ first_sends e fifo d =
     let b = fifo e.partner e.role in
     let s : labels (sent e.partner e.role (e ∷ [])) ≡ [] = ap labels (more_none sends e.role [] e (not_sending e.role e d) e.partner) in
     let t : labels (taken e.partner e.role (e ∷ [])) ≡ e.label ∷ [] = ap labels (more_hit receives e.partner [] e d refl e.role refl) in
-    nil_cons (sym s ∙ b.1 ∙ ap (λ (z : List ℕ). z ++ b.0) t)
+    cc

@@ -1,9 +1,8 @@
 -- A role's own events, what it exchanges with a partner, and a list without a role's first event.
-use Rattle.std.proofs.Common.{◌≡◌, ℕ, suc, ◌<◌, ◌≤◌, ◌&&◌, eqb, ◌≢◌, ◌⊎◌, List, [], ◌∷◌, ◌++◌, length, sym, refl, ap, ◌∙◌, subst, ap₂, inl, inr, append_assoc, append-nil, arith}
+use Rattle.std.proofs.Common.{◌≡◌, ℕ, suc, ◌<◌, ◌≤◌, ◌&&◌, eqb, ◌≢◌, ◌⊎◌, List, [], ◌∷◌, ◌++◌, length, sym, refl, ap, ◌∙◌, subst, inl, inr, append_assoc, append-nil, arith}
 use Rattle.std.specs.List.{AllByRecursion}
 use Rattle.std.proofs.lemmas.Bool.{cond-true, cond-false, eq-eqb, ne_eqb, cases_eq, and_from, and_left, and_right}
 use Rattle.protocol.specs.Actions.{Way, sends, receives}
-use Rattle.protocol.proofs.Turns.{cons_head, cons_tail, nil_cons}
 use Rattle.events.specs.declared.event.Event.{Event}
 use Rattle.runs.specs.Events.{direction_of, mine, own, along, exchanged}
 
@@ -76,7 +75,7 @@ pub record Without (m : ℕ) (es : List Event) (e : Event) (r : List Event) : Ty
   pub fronts : (g : List Event) → Front g rest → (Front g es × (own m g ≡ [])) ⊎ ((f : List Event) × Front f es × Less m e f g)
 
 pub without : (m : ℕ) (es : List Event) (e : Event) (r : List Event) → own m es ≡ e ∷ r → Without m es e r
-without m [] e r q = absurd (nil_cons q)
+without m [] e r q = absurd cc
 without m (x ∷ es) e r q = step (λ h. without m es e r h) (cases_eq m x.role)
   where
     Fronts : List Event → Type 0
@@ -88,7 +87,7 @@ without m (x ∷ es) e r q = step (λ h. without m es e r h) (cases_eq m x.role)
         record {
           rest = es;
           shorter = refl;
-          own_rest = cons_tail q';
+          own_rest = cc;
           less = lesser es;
           fronts = λ g b. inr (x ∷ g, (b.0, ap (λ (z : List Event). x ∷ z) b.1), lesser g);
         }
@@ -96,7 +95,7 @@ without m (x ∷ es) e r q = step (λ h. without m es e r h) (cases_eq m x.role)
         lesser : (g : List Event) → Less m e (x ∷ g) g
         lesser g =
             let q' : ◌≡◌ {A = List Event} (x ∷ own m es) (e ∷ r) = rw (mine_same m x s) at q in
-            record { theirs = rw (mine_same m x s) (ap (λ (z : Event). z ∷ own m g) (cons_head q')); others = λ k n. rw (mine_other k x (λ h. n (h ∙ sym s))) }
+            record { theirs = rw (mine_same m x s) (cc); others = λ k n. rw (mine_other k x (λ h. n (h ∙ sym s))) }
 
     more : m ≢ x.role → (f g : List Event) → Less m e f g → Less m e (x ∷ f) (x ∷ g)
     more n f g l = record { theirs = rw (mine_other m x n) l.theirs; others = λ k o. ap (λ (z : List Event). mine k x ++ z) (l.others k o) }
@@ -112,13 +111,13 @@ without m (x ∷ es) e r q = step (λ h. without m es e r h) (cases_eq m x.role)
       where
         fronts : (g : List Event) → Front g (x ∷ w.rest) → (Front g (x ∷ es) × (own m g ≡ [])) ⊎ ((f : List Event) × Front f (x ∷ es) × Less m e f g)
         fronts [] b = inl ((x ∷ es, refl), refl)
-        fronts (y ∷ g) b = go (w.fronts g (b.0, cons_tail b.1))
+        fronts (y ∷ g) b = go (w.fronts g (b.0, cc))
           where
             is : x ≡ y
-            is = cons_head b.1
+            is = cc
 
             go : (Front g es × (own m g ≡ [])) ⊎ ((f : List Event) × Front f es × Less m e f g) → (Front (y ∷ g) (x ∷ es) × (own m (y ∷ g) ≡ [])) ⊎ ((f : List Event) × Front f (x ∷ es) × Less m e f (y ∷ g))
-            go (inl a) = inl ((a.0.0, ap₂ (λ (u : Event) (v : List Event). u ∷ v) is a.0.1), rw (← is, mine_other m x n) a.1)
+            go (inl a) = inl ((a.0.0, cc), rw (← is, mine_other m x n) a.1)
             go (inr a) = inr (x ∷ a.0, (a.1.0, ap (λ (z : List Event). x ∷ z) a.1.1), subst (λ (z : Event). Less m e (x ∷ a.0) (z ∷ g)) is (more n a.0 g a.2))
 
     step : (own m es ≡ e ∷ r → Without m es e r) → (m ≡ x.role) ⊎ (m ≡ x.role → ⊥) → Without m (x ∷ es) e r

@@ -8,7 +8,7 @@ use Rattle.protocol.specs.Actions.{Way, sends, receives, Action, sending, receiv
 use Rattle.protocol.specs.Paths.{PathFrom, end_of, share}
 use Rattle.protocol.specs.Sets.{here, Acts, Led, Successor, After}
 use Rattle.protocol.specs.Sound.{Reaches, now, later}
-use Rattle.protocol.proofs.Turns.{nil_cons, turn_sender, turn_receiver, Side, as_sender, as_receiver, aside, side, Asked, asked, unasked, ask, asked_label}
+use Rattle.protocol.proofs.Turns.{turn_sender, turn_receiver, Side, as_sender, as_receiver, aside, side, Asked, asked, unasked, ask, asked_label}
 use Rattle.protocol.proofs.Known.{same_exchange, apart}
 use Rattle.protocol.proofs.Closures.{Closed, silent_closed}
 use Rattle.events.specs.declared.event.Event.{Event}
@@ -167,7 +167,7 @@ module _ (sh : Sheet) (book : Book) (valid : Valid sh) (Done : ℕ → Type 0) w
           let h = heads sh book valid q.receiver (Done q.receiver) s (c q.receiver) f r v q hq qs (receiving q) t in
           let b = ready.fifo es ([], sym (append-nil es)) q.sender q.receiver in
           let b' = rw (none, o, along_yes receives q.sender f h.0 h.1) at b in
-          nil_cons b'.1
+          cc
 
       go : (own q.receiver es ≡ []) ⊎ ((x : Event) × (rest : List Event) × (own q.receiver es ≡ x ∷ rest)) → own q.receiver es ≡ []
       go (inl e) = e
@@ -312,9 +312,9 @@ module _ (sh : Sheet) (book : Book) (valid : Valid sh) (Done : ℕ → Type 0) w
   walk n rec c es small C e r oC s (now a i) ready = go (list_cases (own i.1.place.sender es))
     where
       stuck : own i.1.place.sender es ≡ [] → own i.1.place.receiver es ≡ [] → Side C i.1.place → ⊥
-      stuck x y (as_sender q _) = nil_cons (sym (rw q x) ∙ oC)
-      stuck x y (as_receiver _ q _) = nil_cons (sym (rw q y) ∙ oC)
-      stuck x y (aside _ _ z) = nil_cons (sym z ∙ i.1.acts)
+      stuck x y (as_sender q _) = cc
+      stuck x y (as_receiver _ q _) = cc
+      stuck x y (aside _ _ z) = cc
 
       go : (own i.1.place.sender es ≡ []) ⊎ ((x : Event) × (rest : List Event) × (own i.1.place.sender es ≡ x ∷ rest)) → Goal sh book Done s c es
       go (inl x) = absurd (stuck x (receiver_idle s c es ready i.1.place i.1.has i.1.at x) (side C i.1.place))

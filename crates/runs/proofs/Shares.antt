@@ -1,13 +1,11 @@
 -- A role's set after its events, by paths.
 use Rattle.std.proofs.Common.{◌≡◌, ℕ, suc, List, [], ◌∷◌, length, sym, refl, ap, subst, ap₂, arith}
-use native.Mathlib.Nat.{suc_inj}
 use Rattle.sheet.specs.Model.{Sheet}
 use Rattle.protocol.specs.Actions.{Action}
 use Rattle.protocol.specs.Paths.{end_of, share}
 use Rattle.protocol.specs.Sets.{Start, Successor, After, Followed}
 use Rattle.protocol.specs.Projection.{Move, move, moves, Played, LeadsTo, OneSided}
 use Rattle.protocol.specs.Projection as projection
-use Rattle.protocol.proofs.Turns.{cons_head, cons_tail, nil_cons}
 use Rattle.protocol.proofs.Moves.{projects, start_made, played_followed}
 use Rattle.events.specs.declared.event.Event.{Event}
 use Rattle.runs.specs.Events.{direction_of, own, labels}
@@ -53,13 +51,13 @@ as_moves sh book m X c (e ∷ es) k =
 -- actions that make those moves are the events' whole share
 whole_from : (es : List Event) (vs : List Move) (actions : List Action) → FitsMoves es vs → moves actions ≡ vs → Whole es actions
 whole_from [] [] [] f q = record { begin = tt; all = refl }
-whole_from [] [] (a ∷ actions) f q = absurd (nil_cons (sym q))
+whole_from [] [] (a ∷ actions) f q = absurd cc
 whole_from [] (v ∷ vs) actions f q = absurd f
 whole_from (e ∷ es) [] actions f q = absurd f
-whole_from (e ∷ es) (v ∷ vs) [] f q = absurd (nil_cons q)
+whole_from (e ∷ es) (v ∷ vs) [] f q = absurd cc
 whole_from (e ∷ es) (v ∷ vs) (a ∷ actions) f q =
-    let rest = whole_from es vs actions f.1 (cons_tail q) in
-    let is : move a ≡ v = cons_head q in
+    let rest = whole_from es vs actions f.1 (cc) in
+    let is : move a ≡ v = cc in
     let fit : FitsMove e (move a) = subst (FitsMove e) (sym is) f.0 in
     record { begin = (record { direction = fit.direction; partner = fit.partner; label = fit.label }, rest.begin); all = ap suc rest.all }
 
@@ -68,7 +66,7 @@ pub whole_labels : (es : List Event) (actions : List Action) → Beginning es ac
 whole_labels [] [] b n = refl
 whole_labels [] (a ∷ actions) b n = absurd (omega arith)
 whole_labels (e ∷ es) [] b n = absurd b
-whole_labels (e ∷ es) (a ∷ actions) b n = ap₂ (λ (x : ℕ) (y : List ℕ). x ∷ y) (sym b.0.label) (whole_labels es actions b.1 (suc_inj n))
+whole_labels (e ∷ es) (a ∷ actions) b n = ap₂ (λ (x : ℕ) (y : List ℕ). x ∷ y) (sym b.0.label) (whole_labels es actions b.1 (cc))
 
 -- a path whose share the events are leads into their set, and they can be followed
 pub path_inside : (sh : Sheet) (m : ℕ) (es : List Event) (s : ℕ) → PathTo sh m es s → Followed sh m (Start sh m) (labels (own m es)) × SetAfter sh m es s

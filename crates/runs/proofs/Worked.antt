@@ -19,9 +19,8 @@ use Rattle.protocol.specs.Accepted.{HasPart, Accepted}
 use Rattle.std.proofs.lemmas.Bool.{and_parts, ltb-true}
 use Rattle.protocol.proofs.Listed.{places, every, listed_from_has, place_at}
 use Rattle.protocol.proofs.Checked.{part_true}
-use Rattle.protocol.proofs.Turns.{cons_head, nil_cons}
 use Rattle.events.specs.declared.event.Event.{Event}
-use Rattle.runs.specs.Events.{direction_of, mine, own, along, sent, taken, labels}
+use Rattle.runs.specs.Events.{direction_of, mine, own, along, sent, taken}
 use Rattle.runs.specs.Run.{Rising, InOrder, Channels, Beginning, timings, Timely, Run}
 use Rattle.runs.specs.Waiting.{waiting}
 use Rattle.runs.specs.Steady.{Steady, AllSteady}
@@ -177,7 +176,7 @@ unsent_follows (suc (suc m)) = rw (own_unknown 2 (suc (suc m)) (omega arith) uns
 
 unsent_taken : NoRun unsent
 unfolding mine along
-unsent_taken r = nil_cons (r.channels (event 1 1 0 0 103 ∷ []) (event 0 0 1 0 103 ∷ []) refl 0 1).0.1
+unsent_taken r = cc ((r.channels (event 1 1 0 0 103 ∷ []) (event 0 0 1 0 103 ∷ []) refl 0 1).0.1)
 
 unsent_takes : NoRun unsent × Rising 100 unsent × TimelyOnSomePath oven windows 100 unsent
 unsent_takes = (unsent_taken, omega arith, on_some_path oven unsent (omega arith) short_path short_leads 100 unsent_follows)
@@ -358,7 +357,7 @@ main_next u l k x = blocked x.0 x.1 x.3
         let b = (channels_now 8 (heating ++ (e ∷ [])) r.channels 1 0).0 in
         let s : sent 1 0 (heating ++ (e ∷ [])) ≡ [] = more_none sends 0 heating e (not_sending 0 e t.0) 1 ∙ oven_sent_nothing in
         let w : taken 1 0 (heating ++ (e ∷ [])) ≡ e ∷ [] = more_hit receives 1 heating e t.0 t.1 0 (sym q) ∙ ap (λ (z : List Event). z ++ (e ∷ [])) main_took_nothing in
-        nil_cons (sym (ap labels s) ∙ b.1 ∙ ap (λ (z : List Event). labels z ++ b.0) w)
+        cc
 
 pub oven_examples : OvenExamples
 oven_examples = record {
@@ -475,16 +474,15 @@ unfolding turn
 only_receives s a i = go i.1.place i.1.acts (listed_from_has untold i.1.place i.1.has)
   where
     go : (p : Place) → turn 2 p ≡ a ∷ [] → Memᴰ p (places untold) → a ≡ receiving run_place
-    go p t (Memᴰ.head q) = absurd (nil_cons (sym (ap (turn 2) q) ∙ t))
-    go p t (Memᴰ.tail (Memᴰ.head q)) = absurd (nil_cons (sym (ap (turn 2) q) ∙ t))
-    go p t (Memᴰ.tail (Memᴰ.tail (Memᴰ.head q))) = sym (cons_head (sym (ap (turn 2) q) ∙ t))
+    go p t (Memᴰ.head q) = absurd (cc (ap (turn 2) q))
+    go p t (Memᴰ.tail (Memᴰ.head q)) = absurd (cc (ap (turn 2) q))
+    go p t (Memᴰ.tail (Memᴰ.tail (Memᴰ.head q))) = cc (ap (turn 2) q)
     go p t (Memᴰ.tail (Memᴰ.tail (Memᴰ.tail i))) = elim i [ ]
 
 never_sends : {A : Type 0} (s : ℕ) (a : Action) → Acts untold 2 s a → a.way ≡ sends → A
 never_sends s a i w =
-    let q : receives ≡ sends = sym (ap (λ (x : Action). x.way) (only_receives s a i)) ∙ w in
-    let z : ◌≡◌ {A = ℕ} 1 0 = ap direction_of q in
-    absurd (omega arith)
+    let q = only_receives s a i in
+    absurd cc
 
 part_steady : (sh : Sheet) (m : ℕ) → HasPart sh m → (ls : List ℕ) → Followed sh m (Start sh m) ls → Steady sh m (After sh m (Start sh m) ls)
 part_steady sh m part ls f =

@@ -23,7 +23,7 @@ use Rattle.runs.specs.Monitor.{Monitor, Able, Room}
 use Rattle.runs.specs.Stands.{last_tick}
 use Rattle.runs.specs.Laws.{Least, CouldPass, Could}
 use Rattle.runs.proofs.Forecast.{CouldDo, as_event, could_by_action, since_latest}
-use Rattle.runs.proofs.Foresee.{keeping}
+use Rattle.runs.proofs.Foresee.{least_by, keeping}
 use Rattle.runs.proofs.Judging.{accepted_steady}
 use Rattle.session.specs.declared.inner.Inner.{Inner}
 use Rattle.session.specs.Admitted.{RowAdmits}
@@ -32,7 +32,6 @@ use Rattle.session.specs.Earliest.{SomeMove}
 use Rattle.session.specs.Kept.{record_of, no_set, set_at, monitor_of}
 use Rattle.session.specs.Prepared.{set_in_part, move_in_set}
 use Rattle.session.specs.Watches.{Watches}
-use Rattle.session.proofs.Leasts.{least_by}
 
 none_some : (o : Option Move) (to : Move) → o ≡ None → o ≡ Some to → ⊥
 none_some o to p q = let z : ◌≡◌ {A = ℕ} 0 1 = cc in omega arith

@@ -5,14 +5,10 @@ use Rattle.parting.specs.declared.local.LocalSet.{LocalSet}
 use Rattle.parting.specs.declared.local.Move.{Move}
 use Rattle.runs.specs.Laws.{Least}
 use Rattle.runs.specs.Run.{Book}
+use Rattle.runs.proofs.Foresee.{least_by}
 use Rattle.session.specs.Admitted.{RowAdmits}
 use Rattle.session.specs.Earliest.{SomeMove, sooner_of}
 use Rattle.session.specs.Prepared.{move_in_set}
-
--- what is the same from low on has the same least
-pub least_by : (P Q : ℕ → Type 0) (low high : ℕ) → ((u : ℕ) → low ≤ u → P u → Q u) → ((u : ℕ) → low ≤ u → Q u → P u) → (answer : Option ℕ) → Least P low high answer → Least Q low high answer
-least_by P Q low high f g None l = λ u x y q. l u x y (g u x q)
-least_by P Q low high f g (Some t) l = (l.0, l.1, f t l.0 l.2, λ u x y q. l.3 u x y (g u x q))
 
 -- the least of either of two is the lower of their leasts
 pub least_either : (P Q R : ℕ → Type 0) (low high : ℕ) → ((u : ℕ) → P u → R u) → ((u : ℕ) → Q u → R u) → ((u : ℕ) → R u → P u ⊎ Q u) →

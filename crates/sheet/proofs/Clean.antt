@@ -1,9 +1,10 @@
 -- What a reader may take from bytes that have no fault.
-use Rattle.std.proofs.Common.{◌≡◌, ℕ, ◌+◌, ◌-◌, ◌*◌, ◌<◌, ◌≤◌, true, List, [], ◌∷◌, map, length, get_or, take, drop, None, sum_by, sym, refl, ap, ◌∙◌, arith}
+use Rattle.std.proofs.Common.{◌≡◌, ℕ, ◌+◌, ◌-◌, ◌*◌, ◌<◌, ◌≤◌, true, List, map, length, get_or, take, drop, None, sum_by, ap, ◌∙◌, arith}
 use Rattle.std.specs.List.{flat_map}
-use Rattle.std.proofs.lemmas.List.{length-append, length-drop, length-map, length-take-le, get_or-map}
+use Rattle.std.proofs.lemmas.List.{length-drop, length-map, length-take-le, get_or-map}
 use Rattle.std.proofs.ByRecursion.{All-weaker, sum_by_le}
-use Rattle.std.proofs.lemmas.List.Sums.{sum_by-cons, sum_by-take-drop}
+use Rattle.std.proofs.lemmas.List.Concat.{length-flat_map}
+use Rattle.std.proofs.lemmas.List.Sums.{sum_by-take-drop}
 use Rattle.std.proofs.lemmas.Bool.{lt-ltb, le-ltb}
 use Rattle.std.proofs.lemmas.Bool.Decides.{when_true, when_false}
 use Rattle.sheet.specs.Valid.{Between}
@@ -16,10 +17,6 @@ use Rattle.sheet.proofs.Spans.{tiled_at, joined_from_tiled, length-table}
 use Rattle.sheet.proofs.Sizes.{PieceSize, sized_at}
 use Rattle.sheet.proofs.Pieces.{cuts, length-cuts}
 use Rattle.sheet.proofs.Whole.{Whole, clear_fault, name_lengths, state_lengths, pieces_model}
-
-length_joined : (ps : List (List ℕ)) → length (flat_map (λ p. p) ps) ≡ sum_by length ps
-length_joined [] = refl
-length_joined (p ∷ ps) = length-append p (flat_map (λ q. q) ps) ∙ ap (λ (n : ℕ). length p + n) (length_joined ps) ∙ sym (sum_by-cons length p ps)
 
 module _ (bytes : List ℕ) (clean : fault bytes ≡ None) where
   whole : Whole bytes
@@ -66,4 +63,4 @@ module _ (bytes : List ℕ) (clean : fault bytes ≡ None) where
       let ps : List (List ℕ) = cuts bytes in
       let names : sum_by length (take n ps) ≤ length (take n ps) * 12 = sum_by_le length 12 (take n ps) (All-weaker _ (λ p. length p ≤ 12) (λ p h. h.1) (take n ps) (name_lengths bytes whole)) in
       let states : sum_by length (drop n ps) ≤ length (drop n ps) * 42 = sum_by_le length 42 (drop n ps) (All-weaker _ (λ p. length p ≤ 42) (λ p h. omega arith) (drop n ps) (state_lengths bytes whole)) in
-      omega (arith, names, states, length_whole, length_joined ps, sum_by-take-drop length ps n, length-take-le n ps (omega (arith, length-cuts bytes)), length-drop n ps, length-cuts bytes, whole.good_counts)
+      omega (arith, names, states, length_whole, length-flat_map (λ p. p) ps, sum_by-take-drop length ps n, length-take-le n ps (omega (arith, length-cuts bytes)), length-drop n ps, length-cuts bytes, whole.good_counts)

@@ -1,11 +1,10 @@
 -- The oven's session: what its second and its sixth event meet.
-use Rattle.std.proofs.Common.{◌≡◌, ℕ, ◌⊎◌, [], ◌∷◌, sym, refl, ap, ◌∙◌, subst, inl, inr, arith}
+use Rattle.std.proofs.Common.{◌≡◌, ℕ, ◌⊎◌, [], ◌∷◌, sym, refl, ap, subst, inl, inr, arith}
 use mathlib.Core.List.{Memᴰ}
 use Rattle.protocol.specs.Places.{Place, Has}
 use Rattle.protocol.specs.Actions.{Action, sending, receiving, turn}
 use Rattle.protocol.specs.Sets.{here, Acts, Start, Led}
 use Rattle.protocol.proofs.Listed.{places, listed_from_has, place_at}
-use Rattle.protocol.proofs.Turns.{cons_head}
 use Rattle.runs.specs.Events.{mine, along}
 use Rattle.runs.specs.Examples.{branch, event, oven, windows}
 use Rattle.runs.specs.Waiting.{waiting}
@@ -38,11 +37,9 @@ takes_heat s a i l = go i.1.place i.1.acts (listed_from_has oven i.1.place i.1.h
     other b q z = sym (ap (λ (x : Action). x.timing.row) q)
 
     go : (p : Place) → turn 1 p ≡ a ∷ [] → Memᴰ p (places oven) → a.timing.row ≡ 0
-    go p t (Memᴰ.head q) = other (receiving heat_place) (cons_head (sym (ap (turn 1) q) ∙ t)) refl
-    go p t (Memᴰ.tail (Memᴰ.head q)) =
-        absurd (let z : 1 ≡ a.label = ap (λ (x : Action). x.label) (cons_head (sym (ap (turn 1) q) ∙ t)) in omega arith)
-    go p t (Memᴰ.tail (Memᴰ.tail (Memᴰ.head q))) =
-        absurd (let z : 2 ≡ a.label = ap (λ (x : Action). x.label) (cons_head (sym (ap (turn 1) q) ∙ t)) in omega arith)
+    go p t (Memᴰ.head q) = other (receiving heat_place) (cc (ap (turn 1) q)) refl
+    go p t (Memᴰ.tail (Memᴰ.head q)) = absurd (cc (ap (turn 1) q))
+    go p t (Memᴰ.tail (Memᴰ.tail (Memᴰ.head q))) = absurd (cc (ap (turn 1) q))
     go p t (Memᴰ.tail (Memᴰ.tail (Memᴰ.tail i))) = elim i [ ]
 
 second_turn : HasTurn oven asked (event 1 1 0 0 106)
@@ -89,7 +86,7 @@ second_event = record {
 -- HOT was sent, and FAULT cannot be taken in its place
 sixth_no_run : GoesOn oven windows 100 8 answered (event 0 1 1 2 130) → ⊥
 unfolding mine along
-sixth_no_run r = let q : ◌≡◌ {A = ℕ} 1 2 = cons_head (r.channels (event 0 0 1 0 103 ∷ event 1 1 0 0 105 ∷ event 1 0 0 1 125 ∷ event 0 1 1 2 130 ∷ []) [] refl 1 0).0.1 in omega arith
+sixth_no_run r = cc ((r.channels (event 0 0 1 0 103 ∷ event 1 1 0 0 105 ∷ event 1 0 0 1 125 ∷ event 0 1 1 2 130 ∷ []) [] refl 1 0).0.1)
 
 main_sent : Led oven 0 (Start oven 0) 0 1
 unfolding turn
@@ -113,8 +110,7 @@ sixth_other : Waits answered (event 0 1 1 2 130) → ⊥
 unfolding mine along waiting
 sixth_other w =
     let x = w refl in
-    let q : 1 ≡ x.0.label = ap (λ (m : _). m.label) (cons_head x.2) in
-    omega (arith, x.3)
+    cc (x.2, x.3)
 
 pub sixth_event : Stops answered (event 0 1 1 2 130) 45 0 2
 sixth_event = record {

@@ -2,6 +2,6 @@ use Rattle.std.proofs.Common.{refl}
 use Rattle.queue.specs.Ring.{held}
 use Rattle.queue.proofs.queue.Queue.new.Goals as goal
 
-pub returns : goal.returns
+pub returns-clause-held : goal.returns-clause-held
 unfolding held
-returns g c = record { slots = refl; lender = refl; held = refl; place = (refl, refl) }
+returns-clause-held g c = refl
