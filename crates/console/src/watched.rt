@@ -35,7 +35,7 @@ fn accept<B: ReadBook + Drop>(sheet: &[u8], book: &[u8]) -> Result<(Accepted, B)
     let book = B::read_book(book)?;
     match part(sheet) {
         Ok(accepted) => Ok((accepted, book)),
-        Err(refused) => Err(ConsoleFault::from(refused.0)),
+        Err(refused) => Err(ConsoleFault::from(refused.fault)),
     }
 }
 

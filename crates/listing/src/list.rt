@@ -45,7 +45,7 @@ fn parted(input: &[u8]) -> Result<Accepted, ListFault>
 {
     match part(examine(input)?) {
         Ok(accepted) => Ok(accepted),
-        Err(refused) => Err(ListFault::from(refused.0)),
+        Err(refused) => Err(ListFault::from(refused.fault)),
     }
 }
 

@@ -5,6 +5,7 @@ use Rattle.reading.specs.Handing.{counts_of}
 use Rattle.parting.specs.declared.accepted.Accepted.{Accepted}
 use Rattle.parting.specs.declared.fault.PartFault.{PartFault}
 use Rattle.parting.specs.declared.local.Part.{Part}
+use Rattle.parting.specs.declared.refused.Refused.{Refused}
 use Rattle.parting.specs.Family.{view_of}
 use Rattle.parting.specs.Local.{LocalOf}
 use Rattle.parting.specs.Parts.{Parted}
@@ -17,6 +18,6 @@ pub record PartsOf (sh : Sheet) (a : Accepted) : Type 0 where
   pub found : (m : ℕ) → m < length sh.roles → (d : Part) → Parted (view_of m (places sh)) m (length sh.labels) (slice_index_or a.parts m d)
 
 -- the fault that a stopped parting carries
-abbrev pub fault_of : {T S : Type 0} → Result T (PartFault × S) → Option PartFault
+abbrev pub fault_of : {T : Type 0} → Result T Refused → Option PartFault
 fault_of (Ok x) = None
-fault_of (Err e) = Some e.0
+fault_of (Err e) = Some e.fault

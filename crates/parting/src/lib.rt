@@ -18,6 +18,7 @@ mod masks;
 pub mod part;
 mod parts;
 mod point;
+pub mod refused;
 mod role;
 mod successor;
 mod tables;

@@ -7,9 +7,9 @@ ghost use Rattle.parting.specs.Parts.{part_fault};
 ghost use Rattle.parting.specs.Whole.{PartsOf, fault_of};
 
 use crate::accepted::Accepted;
-use crate::fault::PartFault;
 use crate::graph::decode;
 use crate::local::Part;
+use crate::refused::Refused;
 use crate::role::{MOST, role_part};
 use crate::tables::no_part;
 use crate::transition::Transition;
@@ -21,9 +21,9 @@ use sheet::branch::Branch;
 /// It uses up the read sheet and answers an accepted one exactly when every role has a part; that one has
 /// the read sheet's counts, and for each role the table of its sets. Otherwise it gives the read sheet back,
 /// with the fault that comes first: roles by number, each role's sets as found, each judged and then followed.
-pub fn part(sheet: ReadSheet) -> Result<Accepted, (PartFault, ReadSheet)>
+pub fn part(sheet: ReadSheet) -> Result<Accepted, Refused>
     ensures judged { fault_of result ≡ part_fault (sheet_of sheet) }
-    ensures whole { MatchResult result (λ a. CanBeParted (sheet_of sheet) × PartsOf (sheet_of sheet) a) (λ e. (CanBeParted (sheet_of sheet) → ⊥) × (e.1 ≡ sheet)) }
+    ensures whole { MatchResult result (λ a. CanBeParted (sheet_of sheet) × PartsOf (sheet_of sheet) a) (λ e. (CanBeParted (sheet_of sheet) → ⊥) × (e.sheet ≡ sheet)) }
 {
     let counts = sheet.counts();
     let mut slots = no_transitions();
@@ -32,7 +32,7 @@ pub fn part(sheet: ReadSheet) -> Result<Accepted, (PartFault, ReadSheet)>
     for role in 0..counts.roles {
         match role_part(&slots[..count], role, counts.labels) {
             Ok(part) => parts[role as usize] = part,
-            Err(fault) => return Err((fault, sheet)),
+            Err(fault) => return Err(Refused { sheet, fault }),
         }
     }
     Ok(Accepted { counts, parts })

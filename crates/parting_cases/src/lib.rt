@@ -116,9 +116,8 @@ pub fn answer(sheet: &Bytes) -> (u8, usize, usize) {
         Err(_) => (255, 0, 0),
         Ok(sheet) => match part(sheet) {
             Ok(_) => (0, 0, 0),
-            Err(stopped) => {
-                let (fault, _sheet) = stopped;
-                let stop = Stop::from(fault);
+            Err(refused) => {
+                let stop = Stop::from(refused);
                 (stop.number, stop.first, stop.second)
             }
         },

@@ -19,9 +19,8 @@ fn answer(bytes: &[u8]) -> (u8, usize, usize) {
     };
     match part(sheet) {
         Ok(_) => (0, 0, 0),
-        Err(stopped) => {
-            let (fault, _) = stopped;
-            let stop = Stop::from(fault);
+        Err(refused) => {
+            let stop = Stop::from(refused);
             (stop.number, stop.first, stop.second)
         }
     }

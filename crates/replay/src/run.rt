@@ -48,6 +48,6 @@ fn run_by<B: TimeBook + Drop>(
 fn accept(sheet: ReadSheet) -> Result<Accepted, Stop> {
     match part(sheet) {
         Ok(accepted) => Ok(accepted),
-        Err(refused) => Err(Stop::from(refused.0)),
+        Err(refused) => Err(Stop::from(refused.fault)),
     }
 }

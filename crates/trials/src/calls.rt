@@ -17,10 +17,7 @@ pub fn accepted(bytes: &[u8]) -> Result<Accepted, Said> {
     };
     match part(sheet) {
         Ok(accepted) => Ok(accepted),
-        Err(stopped) => {
-            let (fault, _) = stopped;
-            Err(Said::Stopped(Stop::from(fault)))
-        }
+        Err(refused) => Err(Said::Stopped(Stop::from(refused))),
     }
 }
 

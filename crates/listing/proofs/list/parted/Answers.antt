@@ -38,6 +38,6 @@ pub returns-in-Err : goal.returns-in-Err
 returns-in-Err c =
     let read = c.in_ok-examine.ensures in
     record {
-      judged = ap Some c.from.ensures ∙ once_read c.args.input.now (bytes_of c.in_ok-examine.field-0) (Some c.in-Err.refused.0) read.judged read.value c.in-Err.ensures.judged;
+      judged = ap Some c.from.ensures ∙ once_read c.args.input.now (bytes_of c.in_ok-examine.field-0) (Some c.in-Err.refused.fault) read.judged read.value c.in-Err.ensures.judged;
       value = tt;
     }
