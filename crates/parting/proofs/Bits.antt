@@ -1,5 +1,5 @@
 -- What the bits of a mask say.
-use Rattle.std.proofs.Common.{◌≡◌, ℕ, suc, ◌+◌, ◌-◌, ◌/◌, ◌%◌, ◌^◌, ◌<◌, max, Bool, false, ◌||◌, eqb, ◌≢◌, ◌⊎◌, sym, ap, ◌∙◌, subst, inl, inr, arith}
+use Rattle.std.proofs.Common.{◌≡◌, ℕ, suc, ◌+◌, ◌-◌, ◌/◌, ◌%◌, ◌^◌, ◌<◌, ◌≤◌, max, Bool, false, ◌||◌, eqb, ◌≢◌, ◌⊎◌, sym, ap, ◌∙◌, subst, inl, inr, arith, pow_mono}
 use native.Mathlib.Nat.{zero-div, div_self, div-eq_of_lt}
 use lib.Bits.{bit_or, or_shr, or_step}
 use Rattle.std.proofs.lemmas.Nat.{pow_pos, pow-add, shl-shr, pow_below}
@@ -9,6 +9,14 @@ use Rattle.parting.specs.Masks.{has, add}
 pub has_none : (s : ℕ) → has 0 s ≡ false
 unfolding has
 has_none s = ne_eqb (0 / 2 ^ s % 2) 1 (λ q. let z : 0 % 2 ≡ 1 = rw (zero-div (2 ^ s)) at q in omega arith)
+
+-- no number from 64 on is in a mask
+pub has_beyond : (mask k : ℕ) → mask < 2 ^ 64 → 64 ≤ k → has mask k ≡ false
+unfolding has
+has_beyond mask k h l =
+    let p : 2 ^ 64 ≤ 2 ^ k = pow_mono l in
+    let z : mask / 2 ^ k ≡ 0 = div-eq_of_lt (omega (arith, h, p)) in
+    ne_eqb (mask / 2 ^ k % 2) 1 (λ q. omega (arith, z, q))
 
 or_odd : (a b : ℕ) → bit_or a b % 2 ≡ max (a % 2) (b % 2)
 or_odd a b = rw (or_step a b) (omega arith)

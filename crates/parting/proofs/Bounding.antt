@@ -1,13 +1,13 @@
 -- The numbers of a valid sheet fit into masks.
 use Rattle.std.proofs.Common.{◌≡◌, ℕ, ◌<◌, List, [], map, ap, ◌∙◌, subst, arith}
 use mathlib.Core.List.{Memᴰ}
-use Rattle.std.proofs.ByRecursion.{All-map, All-weaker}
+use Rattle.std.proofs.lemmas.List.Elements.{All-map, All-weaker, All-from_recursion, recursion_from_All}
 use Rattle.sheet.specs.Model.{Sheet}
 use Rattle.sheet.specs.Valid.{Valid}
 use Rattle.protocol.specs.Places.{Place}
 use Rattle.parting.specs.declared.act.Act.{Act}
 use Rattle.parting.specs.declared.edge.Edge.{Edge}
-use Rattle.parting.specs.Bounds.{SmallPlaces, SmallActs, SmallEdges}
+use Rattle.parting.specs.Bounds.{SmallPlace, SmallPlaces, SmallAct, SmallActs, SmallEdge, SmallEdges}
 use Rattle.parting.specs.Family.{View, view_of}
 use Rattle.parting.specs.View.{places, acts, acts_at, silent_edges, silent_at, edge_of, back_edge, acting_states_of, leading, action_of}
 use Rattle.parting.specs.Spread.{spread}
@@ -15,32 +15,29 @@ use Rattle.parting.proofs.Gathering.{all_mem, mem_all}
 use Rattle.parting.proofs.Unique.{good_place, good_branch, turn_label}
 use Rattle.parting.proofs.Viewing.{joined_from, has_from, act_at, single, Side, as_sender, as_receiver, apart, side}
 
-abbrev SmallPlace : Place → Type 0
-SmallPlace p = (p.state < 64) × (p.branch.next < 64) × (p.branch.label < 32)
-
 pub small_places_lem : (sh : Sheet) → Valid sh → SmallPlaces (places sh)
-small_places_lem sh v = mem_all SmallPlace (places sh) (λ p i.
+small_places_lem sh v = All-from_recursion SmallPlace (places sh) (mem_all SmallPlace (places sh) (λ p i.
     let h = has_from sh p i in
     let g = good_branch sh v p h in
     let n = v.state_count.1 in
     let l = v.label_count.1 in
-    (omega (arith, (good_place sh v p h).0, n), omega (arith, g.next, n), omega (arith, g.label, l)))
+    (omega (arith, (good_place sh v p h).0, n), omega (arith, g.next, n), omega (arith, g.label, l))))
 
 module _ (m : ℕ) (ps : List Place) (small : SmallPlaces ps) where
   pub small_acts_lem : SmallActs (acts m ps)
-  small_acts_lem = mem_all (λ a. (a.state < 64) × (a.next < 64) × (a.label < 32)) (acts m ps) (λ a i.
+  small_acts_lem = All-from_recursion SmallAct (acts m ps) (mem_all SmallAct (acts m ps) (λ a i.
       let r = joined_from (acts_at m) ps a i in
-      let s = all_mem SmallPlace ps small r.0 r.1 in
+      let s = all_mem SmallPlace ps (recursion_from_All SmallPlace ps small) r.0 r.1 in
       let q = act_at m r.0 a r.2 in
       let l : a.label ≡ r.0.branch.label = turn_label m r.0 (action_of a) q.2 in
-      (omega (arith, s.0, q.0), omega (arith, s.1, q.1), omega (arith, s.2, l)))
+      (omega (arith, s.0, q.0), omega (arith, s.1, q.1), omega (arith, s.2, l))))
 
   pub small_silent : SmallEdges (silent_edges m ps)
-  small_silent = mem_all (λ e. (e.from < 64) × (e.to < 64)) (silent_edges m ps) (λ e i.
+  small_silent = All-from_recursion SmallEdge (silent_edges m ps) (mem_all SmallEdge (silent_edges m ps) (λ e i.
       let r = joined_from (silent_at m) ps e i in
-      one e r.0 (all_mem SmallPlace ps small r.0 r.1) r.2 (side m r.0))
+      one e r.0 (all_mem SmallPlace ps (recursion_from_All SmallPlace ps small) r.0 r.1) r.2 (side m r.0)))
     where
-      one : (e : Edge) (p : Place) → SmallPlace p → Memᴰ e (silent_at m p) → Side m p → (e.from < 64) × (e.to < 64)
+      one : (e : Edge) (p : Place) → SmallPlace p → Memᴰ e (silent_at m p) → Side m p → SmallEdge e
       one e p s j (as_sender _ _ z) = let k : Memᴰ e [] = subst (Memᴰ e) z j in elim k [ ]
       one e p s j (as_receiver _ _ z) = let k : Memᴰ e [] = subst (Memᴰ e) z j in elim k [ ]
       one e p s j (apart _ _ z) =
@@ -48,7 +45,7 @@ module _ (m : ℕ) (ps : List Place) (small : SmallPlaces ps) where
           (omega (arith, ap (λ (x : Edge). x.from) q, s.0), omega (arith, ap (λ (x : Edge). x.to) q, s.1))
 
 pub small_back : (ps : List Place) → SmallPlaces ps → SmallEdges (map back_edge ps)
-small_back ps small = All-map (λ (e : Edge). (e.from < 64) × (e.to < 64)) back_edge ps (All-weaker SmallPlace (λ p. (p.branch.next < 64) × (p.state < 64)) (λ p h. (h.1, h.0)) ps small)
+small_back ps small = All-map SmallEdge back_edge ps (All-weaker SmallPlace (λ p. SmallEdge (back_edge p)) (λ p h. (h.1, h.0)) ps small)
 
 -- a view by its parts
 pub view_is : (m : ℕ) (ps : List Place) (as' : List Act) (es back : List Edge) (start lead : ℕ) → as' ≡ acts m ps → es ≡ silent_edges m ps → back ≡ map back_edge ps → start ≡ acting_states_of as' → lead ≡ spread back start

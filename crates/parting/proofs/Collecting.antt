@@ -1,41 +1,32 @@
--- Loops that write what they find to the front of slots.
-use Rattle.std.proofs.Common.{◌≡◌, ℕ, ◌+◌, ◌<◌, ◌≤◌, Bool, true, false, cond, List, [], ◌∷◌, ◌++◌, map, length, get_or, take, drop, set, filter, sym, refl, ap, ◌∙◌, arith}
+-- A loop that gathers what is listed of each element.
+use Rattle.std.proofs.Common.{◌≡◌, ℕ, ◌+◌, ◌<◌, ◌≤◌, Bool, true, false, cond, List, [], ◌∷◌, ◌++◌, map, length, get_or, drop, filter, sym, refl, ap, ◌∙◌}
+use Rattle.std.specs.Bool.{then_some}
 use Rattle.std.specs.List.{flat_map}
-use Rattle.std.proofs.lemmas.List.{append-nil, append_assoc, at_drop_more, at_drop_all, take_more_set}
+use Rattle.std.proofs.lemmas.List.{append-nil, append_assoc, at_drop_more, at_drop_all}
+use Rattle.parting.specs.Lists.{listed}
 
--- what was found in the first i elements stands in the first `count` slots
-pub record Collecting {X Y : Type 0} (f : X → List Y) (xs : List X) (slots : List Y) (count i : ℕ) : Type 0 where
-  pub found : take count slots ++ flat_map f (drop i xs) ≡ flat_map f xs
-  pub behind : count ≤ i
+-- what was found in the first i elements, and what is listed of the others
+abbrev pub Collecting : {X Y : Type 0} → (X → List Y) → List X → List Y → ℕ → Type 0
+Collecting f xs found i = found ++ flat_map f (drop i xs) ≡ flat_map f xs
 
-module _ {X Y : Type 0} (f : X → List Y) (xs : List X) (slots : List Y) (count i : ℕ) where
-  pub collecting_none : (x : X) → i < length xs → f (get_or xs i x) ≡ [] → Collecting f xs slots count i → Collecting f xs slots count (i + 1)
-  collecting_none x h e c = record {
-    found = ap (λ l. take count slots ++ l) (sym (at_drop_more (flat_map f) xs i x h ∙ ap (λ l. l ++ flat_map f (drop (i + 1) xs)) e)) ∙ c.found;
-    behind = omega (arith, c.behind);
-  }
+module _ {X Y : Type 0} (f : X → List Y) (xs : List X) (found : List Y) (i : ℕ) where
+  pub collecting_more : (x : X) → i < length xs → Collecting f xs found i → Collecting f xs (found ++ f (get_or xs i x)) (i + 1)
+  collecting_more x h c =
+      append_assoc found (f (get_or xs i x)) (flat_map f (drop (i + 1) xs))
+      ∙ ap (λ l. found ++ l) (sym (at_drop_more (flat_map f) xs i x h))
+      ∙ c
 
-  pub collecting_some : (x : X) (y : Y) → i < length xs → count < length slots → f (get_or xs i x) ≡ y ∷ [] → Collecting f xs slots count i → Collecting f xs (set slots count y) (count + 1) (i + 1)
-  collecting_some x y h k e c = record {
-    found =
-        ap (λ l. l ++ flat_map f (drop (i + 1) xs)) (take_more_set slots count y k)
-        ∙ append_assoc (take count slots) (y ∷ []) (flat_map f (drop (i + 1) xs))
-        ∙ ap (λ l. take count slots ++ l) (sym (at_drop_more (flat_map f) xs i x h ∙ ap (λ l. l ++ flat_map f (drop (i + 1) xs)) e))
-        ∙ c.found;
-    behind = omega (arith, c.behind);
-  }
-
-  pub collecting_all : length xs ≤ i → Collecting f xs slots count i → take count slots ≡ flat_map f xs
-  collecting_all h c =
-      sym (append-nil (take count slots)) ∙ ap (λ l. take count slots ++ l) (sym (at_drop_all (flat_map f) xs i h)) ∙ c.found
-
--- the same, of other names for the slots and the count
-pub collecting_at : {X Y : Type 0} (f : X → List Y) (xs : List X) (slots : List Y) (count i : ℕ) (s : List Y) (n : ℕ) → s ≡ slots → n ≡ count → Collecting f xs slots count i → Collecting f xs s n i
-collecting_at f xs slots count i s n e k c = rw (e, k) c
+  pub collecting_all : length xs ≤ i → Collecting f xs found i → found ≡ flat_map f xs
+  collecting_all h c = sym (append-nil found) ∙ ap (λ l. found ++ l) (sym (at_drop_all (flat_map f) xs i h)) ∙ c
 
 pub joined_map : {X Y Z : Type 0} (f : Y → List Z) (g : X → Y) (xs : List X) → flat_map (λ x. f (g x)) xs ≡ flat_map f (map g xs)
 joined_map f g [] = refl
 joined_map f g (x ∷ xs) = ap (λ l. f (g x) ++ l) (joined_map f g xs)
+
+-- one element of each, or those that pass a test
+pub joined_single : {X Y : Type 0} (f : X → Y) (xs : List X) → flat_map (λ x. f x ∷ []) xs ≡ map f xs
+joined_single f [] = refl
+joined_single f (x ∷ xs) = ap (λ l. f x ∷ l) (joined_single f xs)
 
 abbrev pub kept : {X : Type 0} → (X → Bool) → X → List X
 kept p x = cond (p x) (x ∷ []) []
@@ -47,3 +38,7 @@ joined_kept p (x ∷ xs) = go (p x) (joined_kept p xs)
     go : (b : Bool) → flat_map (kept p) xs ≡ filter p xs → cond b (x ∷ []) [] ++ flat_map (kept p) xs ≡ cond b (x ∷ filter p xs) (filter p xs)
     go true e = ap (λ l. x ∷ l) e
     go false e = e
+
+pub listed_then_some : {X : Type 0} (b : Bool) (x : X) → listed (then_some b x) ≡ cond b (x ∷ []) []
+listed_then_some true x = refl
+listed_then_some false x = refl

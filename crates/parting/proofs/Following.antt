@@ -1,6 +1,5 @@
 -- Following a set, one label after the other.
-use Rattle.std.proofs.Common.{◌≡◌, ℕ, suc, ◌+◌, ◌-◌, ◌<◌, ◌≤◌, Bool, true, false, cond, List, [], ◌∷◌, Some, None, filter, ap, ◌∙◌, arith}
-use Rattle.std.specs.List.{AllByRecursion}
+use Rattle.std.proofs.Common.{◌≡◌, ℕ, suc, ◌+◌, ◌-◌, ◌<◌, ◌≤◌, List, [], ◌∷◌, Some, None, ap, ◌∙◌, arith}
 use Rattle.parting.specs.declared.act.Act.{Act}
 use Rattle.parting.specs.declared.edge.Edge.{Edge}
 use Rattle.parting.specs.declared.fault.PartFault.TheVariants.{Sets}
@@ -43,11 +42,3 @@ module _ (role : ℕ) (v : View) (labels k mask : ℕ) (found : List ℕ) (as' :
   pub visited_all : (more : List ℕ) → first_failing_point v.leading mask as' ≡ None → followed v.silent as' 0 labels found ≡ Some more → visited role v labels k mask found ≡ sets more
   unfolding visited
   visited_all more e f = rw (← are, e, f)
-
-pub all_kept : {X : Type 0} (P : X → Type 0) (test : X → Bool) (xs : List X) → AllByRecursion P xs → AllByRecursion P (filter test xs)
-all_kept P test [] h = h
-all_kept P test (x ∷ xs) h = go (test x) (all_kept P test xs h.1)
-  where
-    go : (b : Bool) → AllByRecursion P (filter test xs) → AllByRecursion P (cond b (x ∷ filter test xs) (filter test xs))
-    go true r = (h.0, r)
-    go false r = r

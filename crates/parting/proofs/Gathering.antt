@@ -1,10 +1,9 @@
 -- What a mask that gathers from a list has.
 use Rattle.std.proofs.Common.{◌≡◌, ℕ, Bool, true, false, cond, ◌&&◌, eqb, ◌⊎◌, List, [], ◌∷◌, Decides, filter, sym, refl, ap, ◌∙◌, subst, inl, inr}
 use mathlib.Core.List.{Memᴰ}
-use Rattle.std.specs.List.{AllByRecursion}
+use Rattle.std.specs.List.{AllByRecursion, list_all}
 use Rattle.std.proofs.lemmas.Bool.{eq-eqb, eqb-true, cases_Bool, cond-true, cond-false, or_cases, or_left, or_right, and_parts, and_from, false≢true}
 use Rattle.parting.specs.Masks.{has, add, In, gather}
-use Rattle.parting.specs.Judge.{every}
 use Rattle.parting.proofs.Bits.{has_add, has_none}
 
 module _ {X : Type 0} (test : X → Bool) (f : X → ℕ) where
@@ -56,16 +55,16 @@ module _ {X : Type 0} (test : X → Bool) (f : X → ℕ) where
   gather_none mask (x ∷ xs) n = ap (λ m. gather test f m xs) (cond-false (test x) (add (f x) mask) mask (n x (Memᴰ.head refl))) ∙ gather_none mask xs (λ y i. n y (Memᴰ.tail i))
 
 -- tests over lists
-pub every_decides : {A : Type 0} (f : A → Bool) (P : A → Type 0) → ((x : A) → Decides (f x) (P x)) → (xs : List A) → Decides (every f xs) ((x : A) → Memᴰ x xs → P x)
+pub every_decides : {A : Type 0} (f : A → Bool) (P : A → Type 0) → ((x : A) → Decides (f x) (P x)) → (xs : List A) → Decides (list_all f xs) ((x : A) → Memᴰ x xs → P x)
 every_decides f P each [] = (λ _ x i. elim i [ ], λ _. refl)
 every_decides {A} f P each (x ∷ xs) = go (every_decides f P each xs)
   where
-    go : Decides (every f xs) ((y : A) → Memᴰ y xs → P y) → Decides (f x && every f xs) ((y : A) → Memᴰ y (x ∷ xs) → P y)
-    go rest = (there, λ h. and_from (f x) (every f xs) ((each x).1 (h x (Memᴰ.head refl))) (rest.1 (λ y i. h y (Memᴰ.tail i))))
+    go : Decides (list_all f xs) ((y : A) → Memᴰ y xs → P y) → Decides (f x && list_all f xs) ((y : A) → Memᴰ y (x ∷ xs) → P y)
+    go rest = (there, λ h. and_from (f x) (list_all f xs) ((each x).1 (h x (Memᴰ.head refl))) (rest.1 (λ y i. h y (Memᴰ.tail i))))
       where
-        there : (f x && every f xs) ≡ true → (y : A) → Memᴰ y (x ∷ xs) → P y
-        there q y (Memᴰ.head e) = rw e ((each x).0 (and_parts (f x) (every f xs) q).0)
-        there q y (Memᴰ.tail i) = rest.0 (and_parts (f x) (every f xs) q).1 y i
+        there : (f x && list_all f xs) ≡ true → (y : A) → Memᴰ y (x ∷ xs) → P y
+        there q y (Memᴰ.head e) = rw e ((each x).0 (and_parts (f x) (list_all f xs) q).0)
+        there q y (Memᴰ.tail i) = rest.0 (and_parts (f x) (list_all f xs) q).1 y i
 
 -- what a filter keeps
 pub kept_from : {A : Type 0} (test : A → Bool) (xs : List A) (x : A) → Memᴰ x (filter test xs) → Memᴰ x xs × (test x ≡ true)

@@ -5,6 +5,7 @@ mod Passing
 mod Viewing
 mod Collecting
 mod Tallying
+mod Ways
 mod Blanks
 mod Entering
 mod Following

@@ -1,31 +1,31 @@
--- Loops over lists and over numbers that test, look for or gather.
-use Rattle.std.proofs.Common.{◌≡◌, ℕ, zero, suc, ◌+◌, ◌<◌, Bool, true, false, ◌&&◌, ◌⊎◌, List, length, get_or, drop, sym, ap, ◌∙◌, inl, inr, arith}
-use Rattle.std.proofs.lemmas.List.{at_drop_more}
-use Rattle.std.proofs.lemmas.Bool.{and_left, and_right, and_from, cases_eq, cond-true, cond-false}
-use Rattle.parting.specs.Masks.{add, gather}
-use Rattle.parting.specs.Judge.{every, every_below}
+-- What the chains of judging say, in the words of its definitions.
+use Rattle.std.proofs.Common.{◌≡◌, ℕ, zero, suc, ◌+◌, ◌<◌, ◌≤◌, Bool, true, false, ◌&&◌, List, [], ◌∷◌, length, get_or, refl, ap, ◌∙◌, arith}
+use Rattle.std.specs.List.{list_all, range_with_len}
+use Rattle.parting.specs.declared.act.Act.{Act}
+use Rattle.parting.specs.Judge.{every_below, is_same_side, is_one_sided}
 
-module _ {X : Type 0} (test : X → Bool) (xs : List X) (i : ℕ) (x : X) (h : i < length xs) where
-  pub every_here : test (get_or xs i x) ≡ false → every test (drop i xs) ≡ false
-  every_here e = at_drop_more (every test) xs i x h ∙ and_left _ _ e
+-- the numbers below n, counted up
+and_swap : (p q r : Bool) → (p && (q && r)) ≡ (q && (p && r))
+and_swap true true r = refl
+and_swap true false r = refl
+and_swap false true r = refl
+and_swap false false r = refl
 
-  pub every_more : test (get_or xs i x) ≡ true → every test (drop i xs) ≡ every test (drop (i + 1) xs)
-  every_more e = at_drop_more (every test) xs i x h ∙ ap (λ b. b && every test (drop (i + 1) xs)) e
+all_more : (test : ℕ → Bool) (a n : ℕ) → list_all test (range_with_len a (suc n)) ≡ (test (a + n) && list_all test (range_with_len a n))
+all_more test a zero = let e : a ≡ a + 0 = omega arith in ap (λ k. test k && true) e
+all_more test a (suc n) =
+    let e : a + 1 + n ≡ a + suc n = omega arith in
+    ap (λ b. test a && b) (all_more test (a + 1) n)
+    ∙ and_swap (test a) (test (a + 1 + n)) (list_all test (range_with_len (a + 1) n))
+    ∙ ap (λ k. test k && (test a && list_all test (range_with_len (a + 1) n))) e
 
-  module _ (f : X → ℕ) (mask : ℕ) where
-    pub gather_in : test (get_or xs i x) ≡ true → gather test f (add (f (get_or xs i x)) mask) (drop (i + 1) xs) ≡ gather test f mask (drop i xs)
-    gather_in e = ap (λ m. gather test f m (drop (i + 1) xs)) (sym (cond-true _ _ _ e)) ∙ sym (at_drop_more (gather test f mask) xs i x h)
+pub all_below : (test : ℕ → Bool) (n : ℕ) → list_all test (range_with_len 0 n) ≡ every_below test n
+all_below test zero = refl
+all_below test (suc n) =
+    let e : 0 + n ≡ n = omega arith in
+    all_more test 0 n ∙ ap (λ b. test (0 + n) && b) (all_below test n) ∙ ap (λ k. test k && every_below test n) e
 
-    pub gather_out : test (get_or xs i x) ≡ false → gather test f mask (drop (i + 1) xs) ≡ gather test f mask (drop i xs)
-    gather_out e = ap (λ m. gather test f m (drop (i + 1) xs)) (sym (cond-false _ _ _ e)) ∙ sym (at_drop_more (gather test f mask) xs i x h)
-
-pub below_fails : (test : ℕ → Bool) (n i : ℕ) → i < n → test i ≡ false → every_below test n ≡ false
-below_fails test zero i h e = absurd (omega arith)
-below_fails test (suc n) i h e = go (λ k. below_fails test n i k e) (cases_eq i n)
-  where
-    go : (i < n → every_below test n ≡ false) → (i ≡ n) ⊎ (i ≡ n → ⊥) → (test n && every_below test n) ≡ false
-    go rec (inl q) = and_left _ _ (ap test (sym q) ∙ e)
-    go rec (inr d) = and_right _ _ (rec (omega arith))
-
-pub below_more : (test : ℕ → Bool) (i : ℕ) → test i ≡ true → every_below test i ≡ true → every_below test (i + 1) ≡ true
-below_more test i e h = let s : suc i ≡ i + 1 = omega arith in ap (every_below test) (sym s) ∙ and_from (test i) (every_below test i) e h
+-- a list that is not empty has its first act on one side, if all
+pub one_sided_first : (acts : List Act) (d : Act) → 1 ≤ length acts → list_all (is_same_side (get_or acts 0 d)) acts ≡ is_one_sided acts
+one_sided_first [] d h = absurd (omega arith)
+one_sided_first (a ∷ acts) d h = refl

@@ -1,6 +1,7 @@
 -- Computed: whether a set is sound, point by point. That each test decides its point is a law.
-use Rattle.std.specs.Prelude.{ℕ, zero, suc, Bool, true, false, cond, not, ◌&&◌, ◌||◌, List, [], ◌∷◌, Some, None, filter, Option, ◌==◌, nat_eq}
+use Rattle.std.specs.Prelude.{ℕ, zero, suc, Bool, true, false, cond, not, ◌&&◌, ◌||◌, List, [], ◌∷◌, Some, None, filter, find, Option, ◌==◌, nat_eq}
 use Rattle.std.specs.Bool.{beq}
+use Rattle.std.specs.List.{list_all}
 use Rattle.parting.specs.declared.act.Act.{Act}
 use Rattle.parting.specs.declared.act.Way.{Way}
 use Rattle.parting.specs.declared.act.Way.TheVariants.{Sends, Receives}
@@ -11,10 +12,6 @@ use Rattle.parting.specs.Masks.{has, gather}
 -- what a role does in the states of a set
 abbrev pub in_set : ℕ → List Act → List Act
 in_set mask as' = filter (λ a. has mask a.state) as'
-
-abbrev pub every : {X : Type 0} → (X → Bool) → List X → Bool
-every test [] = true
-every test (x ∷ xs) = test x && every test xs
 
 -- the test holds of every number below n
 abbrev pub every_below : (ℕ → Bool) → ℕ → Bool
@@ -31,12 +28,11 @@ is_same_side a b = beq (sends a.way) (sends b.way) && a.partner == b.partner
 -- first point
 abbrev pub is_one_sided : List Act → Bool
 is_one_sided [] = true
-is_one_sided (a ∷ as') = every (is_same_side a) (a ∷ as')
+is_one_sided (a ∷ as') = list_all (is_same_side a) (a ∷ as')
 
 -- the first act with that label
 abbrev pub first_with : ℕ → List Act → Option Act
-first_with label [] = None
-first_with label (a ∷ as') = cond (a.label == label) (Some a) (first_with label as')
+first_with label as' = find (λ a. a.label == label) as'
 
 unfoldable pub is_same_timing : Act → Act → Bool
 is_same_timing a b = a.row == b.row && beq a.reset b.reset
@@ -47,7 +43,7 @@ agrees (Some b) a = is_same_timing b a
 
 -- acts with one label have one row and one reset
 abbrev pub unclashed : List Act → Bool
-unclashed as' = every (λ a. agrees (first_with a.label as') a) as'
+unclashed as' = list_all (λ a. agrees (first_with a.label as') a) as'
 
 -- the labels that a role has in a state
 abbrev pub labels_of_state : ℕ → List Act → ℕ

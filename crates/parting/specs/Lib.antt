@@ -6,6 +6,7 @@ pub mod Family
 pub mod Stop
 pub mod Bounds
 pub mod Lists
+pub mod Calls
 pub mod Sets
 pub mod Seen
 pub mod Graph

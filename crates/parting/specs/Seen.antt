@@ -7,7 +7,7 @@ use Rattle.parting.specs.Family.{View, Found, sets, stopped}
 use Rattle.parting.specs.Sets.{found_in}
 
 abbrev pub seen : declared.View → View
-seen v = record { acts = v.acts.now; silent = v.silent.now; leading = v.leading }
+seen v = record { acts = v.acts; silent = v.silent; leading = v.leading }
 
 -- the sets found, or the fault
 abbrev pub found_by : {T : Type 0} → Result T PartFault → List ℕ → Found

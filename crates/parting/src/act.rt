@@ -1,15 +1,19 @@
 //! What a role does in a state.
 
+ghost use Rattle.std.specs.Prelude.{◌≡◌};
+ghost use Rattle.parting.specs.Judge.{is_same_side, is_same_timing};
+
 /// Which side of an exchange a role is on.
-#[derive(Clone, Copy)]
+#[derive(Clone, Copy, PartialEq, Eq, Default)]
 pub enum Way {
+    #[default]
     Sends,
     Receives,
 }
 
 /// What a role does in a state: with whom, under which label, held to which time row, whether its own
 /// clock is reset, and the state that follows.
-#[derive(Clone, Copy)]
+#[derive(Clone, Copy, Default)]
 pub struct Act {
     pub state: u8,
     pub way: Way,
@@ -18,4 +22,21 @@ pub struct Act {
     pub row: u8,
     pub reset: bool,
     pub next: u8,
+}
+
+impl Act {
+    // Whether both acts are on the same side, with the same partner.
+    pub(crate) fn is_same_side(self, other: Act) -> bool
+        ensures { result ≡ is_same_side self other }
+    {
+        self.way == other.way && self.partner == other.partner
+    }
+
+    // Whether both acts have the same time row and the same reset.
+    #[tactic(auto, unfolding(crate::specs::Judge::is_same_timing))]
+    pub(crate) fn is_same_timing(self, other: Act) -> bool
+        ensures { result ≡ is_same_timing self other }
+    {
+        self.row == other.row && self.reset == other.reset
+    }
 }

@@ -1,7 +1,7 @@
 //! A step from one state to another.
 
 /// A step from one state to another.
-#[derive(Clone, Copy)]
+#[derive(Clone, Copy, Default)]
 pub struct Edge {
     pub from: u8,
     pub to: u8,

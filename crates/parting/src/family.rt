@@ -1,20 +1,14 @@
 //! A role's sets: found one after the other, each judged and then followed.
 
 ghost use Rattle.std.specs.Prelude.{◌≡◌, ℕ, ◌^◌, ◌<◌, ◌≤◌, true, List, length, is_some, IfOk};
-ghost use Rattle.parting.specs.Bounds.{SmallActs, SmallEdges};
 ghost use Rattle.parting.specs.Family.{position as position_in, outcome, entered, label_entered, followed, fault_of_point, visited, family_of};
 ghost use Rattle.parting.specs.Seen.{seen, found_by, answered};
 ghost use Rattle.parting.specs.Sets.{found_in, Ready, Waiting};
 
-use crate::act::Act;
-use crate::closure::closure;
-use crate::edge::Edge;
 use crate::fault::PartFault;
 use crate::found::Sets;
-use crate::judging::{acts_in, first_failing, first_of};
 use crate::point::Point;
-use crate::successor::successor;
-use crate::view::View;
+use crate::view::{SetView, View};
 use queue::queue::Queue;
 
 // Where a set stands among those found; their number, where it does not.
@@ -48,44 +42,33 @@ fn enter(sets: &mut Sets, queue: &mut Queue<'_, u64>, mask: u64) -> bool
     queue.push(mask).is_ok()
 }
 
-// Enters the successor under a label of a set in which the role does this, if it has an act with that label.
+// Enters the successor of a set under a label, if the role has an act with that label there.
 fn enter_successor(
-    acts: &[Act],
-    silent: &[Edge],
+    here: &SetView<'_>,
     label: u8,
     sets: &mut Sets,
     queue: &mut Queue<'_, u64>,
 ) -> bool
-    requires small_acts { SmallActs acts.now }
-    requires small_edges { SmallEdges silent.now }
-    requires ready_first { Ready sets.old queue.old }
-    ensures value { outcome result (found_in sets.new) ≡ label_entered silent.now acts.now (found_in sets.old) label }
+    requires { Ready sets.old queue.old }
+    ensures value { outcome result (found_in sets.new) ≡ label_entered here.now.silent.now here.now.acts (found_in sets.old) label }
     ensures ready { Ready sets.new queue.new }
     ensures queued { (k : ℕ) → Waiting k sets.old queue.old → Waiting k sets.new queue.new }
 {
-    if first_of(acts, label).is_none() {
+    if here.acts.first_with(label).is_none() {
         return true;
     }
-    enter(sets, queue, successor(acts, silent, label))
+    enter(sets, queue, here.successor(label))
 }
 
-// Finds the successors of a set in which the role does this, labels rising. False where there is no room.
-fn follow(
-    acts: &[Act],
-    silent: &[Edge],
-    labels: u8,
-    sets: &mut Sets,
-    queue: &mut Queue<'_, u64>,
-) -> bool
-    requires small_acts { SmallActs acts.now }
-    requires small_edges { SmallEdges silent.now }
-    requires ready_first { Ready sets.old queue.old }
-    ensures value { outcome result (found_in sets.new) ≡ followed silent.now acts.now 0 labels (found_in sets.old) }
+// Finds the successors of a set, labels rising. False where there is no room.
+fn follow(here: &SetView<'_>, labels: u8, sets: &mut Sets, queue: &mut Queue<'_, u64>) -> bool
+    requires { Ready sets.old queue.old }
+    ensures value { outcome result (found_in sets.new) ≡ followed here.now.silent.now here.now.acts 0 labels (found_in sets.old) }
     ensures ready { Ready sets.new queue.new }
     ensures queued { (k : ℕ) → Waiting k sets.old queue.old → Waiting k sets.new queue.new }
 {
     for label in 0..labels {
-        if !enter_successor(acts, silent, label, sets, queue) {
+        if !enter_successor(here, label, sets, queue) {
             return false;
         }
     }
@@ -106,29 +89,24 @@ fn fault_at(point: Point, role: u8, set: usize) -> PartFault
 
 // Judges a set, then finds its successors.
 fn visit(
-    view: View<'_>,
+    view: &View,
     role: u8,
     labels: u8,
     set: usize,
     mask: u64,
     sets: &mut Sets,
     queue: &mut Queue<'_, u64>,
-    slots: &mut [Act],
 ) -> Result<(), PartFault>
-    requires small_acts { SmallActs view.acts.now }
-    requires small_edges { SmallEdges view.silent.now }
-    requires acts_in_bounds { length view.acts.now ≤ length slots.old }
-    requires ready_first { Ready sets.old queue.old }
-    ensures value { found_by result (found_in sets.new) ≡ visited role (seen view.entry) labels set mask (found_in sets.old) }
+    requires { Ready sets.old queue.old }
+    ensures value { found_by result (found_in sets.new) ≡ visited role (seen view.now) labels set mask (found_in sets.old) }
     ensures ready { Ready sets.new queue.new }
     ensures queued { (k : ℕ) → Waiting k sets.old queue.old → Waiting k sets.new queue.new }
 {
-    let count = acts_in(view.acts, mask, slots);
-    let acts = &slots[..count];
-    if let Some(point) = first_failing(acts, view.leading, mask) {
+    let here = view.of_set(mask);
+    if let Some(point) = here.first_failing() {
         return Err(fault_at(point, role, set));
     }
-    if !follow(acts, view.silent, labels, sets, queue) {
+    if !follow(&here, labels, sets, queue) {
         return Err(PartFault::Sets {
             role: role as usize,
             set,
@@ -138,27 +116,23 @@ fn visit(
 }
 
 // A role's sets, each judged and then followed in the order in which they are found. The slots of the queue
-// and of the acts are the caller's.
+// are the caller's.
 pub(crate) fn explore(
-    view: View<'_>,
+    view: &View,
     role: u8,
     labels: u8,
     waiting: &mut [u64],
-    slots: &mut [Act],
 ) -> Result<Sets, PartFault>
-    requires small_acts { SmallActs view.acts.now }
-    requires small_edges { SmallEdges view.silent.now }
-    requires acts_in_bounds { length view.acts.now ≤ length slots.old }
-    requires waiting_len { length waiting.old ≡ 32 }
-    ensures value { answered result ≡ family_of role (seen view.entry) labels }
+    requires { length waiting.old ≡ 32 }
+    ensures value { answered result ≡ family_of role (seen view.now) labels }
     ensures few { IfOk result (λ s. (s.count ≤ 32) × (length s.masks ≡ 32)) }
 {
     let mut queue = Queue::new(waiting);
     let mut sets = start_sets();
-    let _ = enter(&mut sets, &mut queue, closure(view.silent, 1));
+    let _ = enter(&mut sets, &mut queue, view.silent.closure(1));
     let mut set = 0;
     while let Some(mask) = queue.pop() {
-        visit(view, role, labels, set, mask, &mut sets, &mut queue, slots)?;
+        visit(view, role, labels, set, mask, &mut sets, &mut queue)?;
         set += 1;
     }
     Ok(sets)

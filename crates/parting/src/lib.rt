@@ -5,8 +5,11 @@
 
 pub mod accepted;
 mod act;
+mod acts;
 mod closure;
+mod collect;
 mod edge;
+mod edges;
 mod family;
 pub mod fault;
 mod found;
@@ -20,7 +23,6 @@ mod parts;
 mod point;
 pub mod refused;
 mod role;
-mod successor;
 mod tables;
 mod transition;
 mod view;

@@ -7,10 +7,11 @@ ghost use Rattle.parting.specs.Parts.{part_fault};
 ghost use Rattle.parting.specs.Whole.{PartsOf, fault_of};
 
 use crate::accepted::Accepted;
+use crate::collect::MOST;
 use crate::graph::decode;
 use crate::local::Part;
 use crate::refused::Refused;
-use crate::role::{MOST, role_part};
+use crate::role::role_part;
 use crate::tables::no_part;
 use crate::transition::Transition;
 use reading::read_sheet::ReadSheet;

@@ -8,13 +8,13 @@ use Rattle.parting.proofs.family.enter_successor.Goals as goal
 pub returns-then-is_none : goal.returns-then-is_none
 unfolding label_entered
 returns-then-is_none c =
-    let none : is_some (first_with c.args.label c.args.acts.now) ≡ false = ap is_some (sym c.first_of.ensures) ∙ c.if-is_none.ensures in
-    record { value = sym (cond-false _ _ _ none); ready = c.requires.ready_first; queued = λ k w. w }
+    let none : is_some (first_with c.args.label c.args.here.now.acts) ≡ false = ap is_some (sym c.first_with.ensures) ∙ c.if-is_none.ensures in
+    record { value = sym (cond-false _ _ _ none); ready = c.requires; queued = λ k w. w }
 
 pub returns : goal.returns
 unfolding label_entered
 returns c =
-    let some : is_some (first_with c.args.label c.args.acts.now) ≡ true = ap is_some (sym c.first_of.ensures) ∙ c.if-is_none.ensures in
+    let some : is_some (first_with c.args.label c.args.here.now.acts) ≡ true = ap is_some (sym c.first_with.ensures) ∙ c.if-is_none.ensures in
     record {
       value = c.enter.ensures.value ∙ ap (entered (found_in c.args.sets.now)) c.successor.ensures ∙ sym (cond-true _ _ _ some);
       ready = c.enter.ensures.ready;

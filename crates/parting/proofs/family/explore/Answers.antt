@@ -12,13 +12,13 @@ enter-requires c =
     record {
       full = s.1;
       few = omega (arith, s.0);
-      slots = ap length c.new-queue.ensures.slots ∙ c.requires.waiting_len;
+      slots = ap length c.new-queue.ensures.slots ∙ c.requires;
       room = omega (arith, s.0, ap length c.new-queue.ensures.held);
     }
 
 pub loop-mask-init : goal.loop-mask-init
 loop-mask-init c =
-    let v = seen c.args.view in
+    let v = seen c.args.view.now in
     started c.args.role v c.args.labels c.enter.result c.start_sets-sets.result c.enter.new.sets c.new-queue.result c.enter.new.queue c.closure.result
     c.start_sets-sets.ensures.0 c.new-queue.ensures.held (c.closure.ensures.value ∙ start_is v) c.enter.ensures.value c.enter.ensures.ready c.enter.ensures.queued
 
@@ -27,14 +27,14 @@ visit-requires c =
     let l = c.loop-mask in
     let e = c.in-Some.ensures in
     let t = taken l.sets l.set c.in-Some.mask l.queue c.pop.new.self l.invariant.ready l.invariant.waiting e.held e.slots in
-    record { small_acts = c.requires.small_acts; small_edges = c.requires.small_edges; acts_in_bounds = omega (arith, l.auto.slots, c.requires.acts_in_bounds); ready_first = t.ready }
+    t.ready
 
 pub returns-in_err-visit : goal.returns-in_err-visit
 returns-in_err-visit c =
     let l = c.loop-mask in
     let e = c.in-Some.ensures in
     let mask = c.in-Some.mask in
-    let v = seen c.args.view in
+    let v = seen c.args.view.now in
     let found = found_in l.sets in
     let t = taken l.sets l.set mask l.queue c.pop.new.self l.invariant.ready l.invariant.waiting e.held e.slots in
     let f = c.in_err-visit.field-0.0 in
@@ -65,7 +65,7 @@ loop-mask-preserved c =
     let l = c.loop-mask in
     let e = c.in-Some.ensures in
     let mask = c.in-Some.mask in
-    let v = seen c.args.view in
+    let v = seen c.args.view.now in
     let found = found_in l.sets in
     let more = found_in c.visit.new.sets in
     let t = taken l.sets l.set mask l.queue c.pop.new.self l.invariant.ready l.invariant.waiting e.held e.slots in
@@ -82,6 +82,6 @@ pub returns : goal.returns
 returns c =
     let l = c.loop-mask in
     record {
-      value = explored_all l.sets c.args.role (seen c.args.view) c.args.labels l.set l.queue l.invariant c.in_default.ensures.held.0;
+      value = explored_all l.sets c.args.role (seen c.args.view.now) c.args.labels l.set l.queue l.invariant c.in_default.ensures.held.0;
       few = (l.invariant.ready.few, l.invariant.ready.full);
     }

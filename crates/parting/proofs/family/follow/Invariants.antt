@@ -5,6 +5,6 @@ use Rattle.parting.proofs.family.follow.Given as goal
 
 abbrev pub invariant-loop-label : goal.invariant-loop-label
 invariant-loop-label l =
-    (followed l.silent l.acts l.label (l.labels - l.label) (found_in l.sets) ≡ followed l.silent l.acts 0 l.labels (found_in l.initial.sets))
+    (followed l.here.silent.now l.here.acts l.label (l.labels - l.label) (found_in l.sets) ≡ followed l.here.silent.now l.here.acts 0 l.labels (found_in l.initial.sets))
     × Ready l.sets l.queue
     × ((k : ℕ) → Waiting k l.initial.sets l.initial.queue → Waiting k l.sets l.queue)

@@ -1,40 +1,31 @@
-use Rattle.std.proofs.Common.{◌<◌, sym, ap, ◌∙◌, subst}
-use Rattle.parting.specs.declared.act.Act.{Act}
-use Rattle.parting.specs.Bounds.{SmallActs}
-use Rattle.parting.specs.Family.{stopped}
-use Rattle.parting.specs.Masks.{has}
+use Rattle.std.proofs.Common.{sym, ap, ◌∙◌}
+use Rattle.parting.specs.Family.{followed, stopped}
+use Rattle.parting.specs.Judge.{first_failing_point}
 use Rattle.parting.specs.Seen.{seen}
 use Rattle.parting.specs.Sets.{found_in}
-use Rattle.parting.proofs.Following.{visited_point, visited_full, visited_all, all_kept}
+use Rattle.parting.proofs.Following.{visited_point, visited_full, visited_all}
 use Rattle.parting.proofs.family.visit.Goals as goal
-
-pub first_failing-requires : goal.first_failing-requires
-first_failing-requires c =
-    subst SmallActs (sym c.acts_in-count.ensures.value) (all_kept (λ (a : Act). (a.state < 64) × (a.next < 64) × (a.label < 32)) (λ a. has c.args.mask a.state) c.args.view.acts.now c.requires.small_acts)
-
-pub follow-requires : goal.follow-requires
-follow-requires c = record {
-  small_acts = subst SmallActs (sym c.acts_in-count.ensures.value) (all_kept (λ (a : Act). (a.state < 64) × (a.next < 64) × (a.label < 32)) (λ a. has c.args.mask a.state) c.args.view.acts.now c.requires.small_acts);
-  small_edges = c.requires.small_edges;
-  ready_first = c.requires.ready_first;
-}
 
 pub returns-in-Some : goal.returns-in-Some
 returns-in-Some c =
     let a = c.args in
+    let h = c.of_set-here in
+    let same = ap (λ l. first_failing_point l a.mask h.result.acts) (sym h.ensures.leading) ∙ ap (λ m. first_failing_point h.result.leading m h.result.acts) (sym h.ensures.states) in
     record {
-      value = ap stopped c.fault_at.ensures
-          ∙ sym (visited_point a.role (seen a.view) a.labels a.set a.mask (found_in a.sets.now) _ c.acts_in-count.ensures.value c.in-Some.point (sym c.first_failing.ensures ∙ c.in-Some.is));
-      ready = c.requires.ready_first;
+      value = ap stopped c.fault_at.ensures ∙ sym (visited_point a.role (seen a.view.now) a.labels a.set a.mask (found_in a.sets.now) _ h.ensures.acts c.in-Some.point (same ∙ sym c.first_failing.ensures ∙ c.in-Some.is));
+      ready = c.requires;
       queued = λ k w. w;
     }
 
 pub returns-then-not-follow : goal.returns-then-not-follow
 returns-then-not-follow c =
     let a = c.args in
+    let h = c.of_set-here in
     let e = c.if-not-follow.ensures in
+    let same = ap (λ l. first_failing_point l a.mask h.result.acts) (sym h.ensures.leading) ∙ ap (λ m. first_failing_point h.result.leading m h.result.acts) (sym h.ensures.states) in
     record {
-      value = sym (visited_full a.role (seen a.view) a.labels a.set a.mask (found_in a.sets.now) _ c.acts_in-count.ensures.value (sym c.first_failing.ensures ∙ c.in_default.is) (sym e.value));
+      value = sym (visited_full a.role (seen a.view.now) a.labels a.set a.mask (found_in a.sets.now) _ h.ensures.acts (same ∙ sym c.first_failing.ensures ∙ c.in_default.is)
+          (ap (λ es. followed es h.result.acts 0 a.labels (found_in a.sets.now)) (sym h.ensures.silent) ∙ sym e.value));
       ready = e.ready;
       queued = e.queued;
     }
@@ -42,9 +33,12 @@ returns-then-not-follow c =
 pub returns : goal.returns
 returns c =
     let a = c.args in
+    let h = c.of_set-here in
     let e = c.if-not-follow.ensures in
+    let same = ap (λ l. first_failing_point l a.mask h.result.acts) (sym h.ensures.leading) ∙ ap (λ m. first_failing_point h.result.leading m h.result.acts) (sym h.ensures.states) in
     record {
-      value = sym (visited_all a.role (seen a.view) a.labels a.set a.mask (found_in a.sets.now) _ c.acts_in-count.ensures.value _ (sym c.first_failing.ensures ∙ c.in_default.is) (sym e.value));
+      value = sym (visited_all a.role (seen a.view.now) a.labels a.set a.mask (found_in a.sets.now) _ h.ensures.acts _ (same ∙ sym c.first_failing.ensures ∙ c.in_default.is)
+          (ap (λ es. followed es h.result.acts 0 a.labels (found_in a.sets.now)) (sym h.ensures.silent) ∙ sym e.value));
       ready = e.ready;
       queued = e.queued;
     }

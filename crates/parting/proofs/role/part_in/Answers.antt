@@ -1,12 +1,10 @@
-use Rattle.std.proofs.Common.{◌≤◌, length, sym, rules}
+use Rattle.std.proofs.Common.{sym}
 use Rattle.std.proofs.lemmas.Result.{err_from_is_err_and}
 use Rattle.parting.specs.Sets.{found_in}
 use Rattle.parting.proofs.role.part_in.Goals as goal
 
 pub table-requires : goal.table-requires
-table-requires c =
-    let long : length c.args.view.acts.now ≤ length c.explore.new.slots = search rules in
-    record { small_acts = c.requires.small_acts; small_edges = c.requires.small_edges; acts_in_bounds = long; count_bound = c.in_ok-sets.ensures.few }
+table-requires c = c.in_ok-sets.ensures.few
 
 pub returns-in_err-sets : goal.returns-in_err-sets
 returns-in_err-sets c =

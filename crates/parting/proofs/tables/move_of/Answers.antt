@@ -14,8 +14,8 @@ without o k e = rw e
 pub returns-in-Some : goal.returns-in-Some
 unfolding move_under
 returns-in-Some c =
-    with_act _ c.in-Some.act _ _ (sym c.first_of.ensures ∙ c.in-Some.is) (c.position-next.ensures ∙ ap (λ m. position m c.args.found.now) c.successor.ensures)
+    with_act _ c.in-Some.act _ _ (sym c.first_with.ensures ∙ c.in-Some.is) (c.position-next.ensures ∙ ap (λ m. position m c.args.found.now) c.successor.ensures)
 
 pub returns-in-None : goal.returns-in-None
 unfolding move_under
-returns-in-None c = without _ _ (sym c.first_of.ensures ∙ c.in-None.is)
+returns-in-None c = without _ _ (sym c.first_with.ensures ∙ c.in-None.is)

@@ -20,14 +20,6 @@ one_more v found table i s h e below k l d = go (cases_eq k i)
 pub loop-i-init : goal.loop-i-init
 loop-i-init c = (c.no_part-part.ensures, refl, λ k h. absurd (omega arith))
 
-pub local_set-requires : goal.local_set-requires
-local_set-requires c =
-    record {
-      small_acts = c.requires.small_acts;
-      small_edges = c.requires.small_edges;
-      acts_in_bounds = omega (arith, c.loop-i.auto.slots, c.requires.acts_in_bounds);
-    }
-
 pub loop-i-preserved : goal.loop-i-preserved
 loop-i-preserved c =
     let l = c.loop-i in
@@ -36,12 +28,12 @@ loop-i-preserved c =
     let is : get_or s.masks i 0 ≡ get_or (found_in s) i 0 = sym (get_or-take s.count s.masks i 0 (omega arith)) in (
       length-set l.part.sets i c.local_set.result ∙ l.invariant.0,
       l.invariant.1,
-      one_more (seen c.args.view) (found_in s) l.part.sets i c.local_set.result (omega (arith, l.invariant.0, c.requires.count_bound.0)) (subst (λ m. Entry (seen c.args.view) (found_in s) m c.local_set.result) is c.local_set.ensures) l.invariant.2,
+      one_more (seen c.args.view.now) (found_in s) l.part.sets i c.local_set.result (omega (arith, l.invariant.0, c.requires.0)) (subst (λ m. Entry (seen c.args.view.now) (found_in s) m c.local_set.result) is c.local_set.ensures) l.invariant.2,
     )
 
 pub returns : goal.returns
 returns c =
     let l = c.loop-i in
     let s = c.args.sets in
-    let n : length (found_in s) ≡ s.count = length-take-le s.count s.masks (omega (arith, c.requires.count_bound)) in
+    let n : length (found_in s) ≡ s.count = length-take-le s.count s.masks (omega (arith, c.requires)) in
     record { count = l.invariant.1 ∙ sym n; each = λ i h d. l.invariant.2 i (omega (arith, n)) d }

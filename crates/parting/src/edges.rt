@@ -1,0 +1,91 @@
+//! Steps from state to state.
+
+ghost use Rattle.std.specs.Prelude.{◌≡◌, ◌≤◌, length, map};
+ghost use Rattle.parting.specs.Bounds.{SmallPlaces};
+ghost use Rattle.parting.specs.Lists.{listed};
+ghost use Rattle.parting.specs.Spread.{passed};
+ghost use Rattle.parting.specs.View.{place_of, silent_at, silent_edges, back_edge as back_edge_of};
+
+use crate::collect::{MOST, collect};
+use crate::edge::Edge;
+use crate::masks::{has, with};
+use crate::transition::Transition;
+use arrayvec::ArrayVec;
+use std::marker::Model;
+
+/// Steps from state to state, in the order of the sheet. A mask can hold each of their states.
+#[derive(Drop)]
+pub(crate) struct Edges {
+    list: ArrayVec<Edge, MOST>,
+}
+
+impl Model for Edges {
+    ghost use Rattle.std.specs.Prelude.{List};
+    ghost use Rattle.parting.specs.declared.edge.Edge.{Edge};
+    ghost use Rattle.parting.specs.Bounds.{SmallEdges};
+
+    ghost Value = { List Edge };
+
+    ghost view = { λ e. e.list.items };
+
+    ghost invariant = { λ e. SmallEdges e.list.items };
+}
+
+impl Edges {
+    // The steps in which the role has no part.
+    pub(crate) fn silent(transitions: &[Transition], role: u8) -> Edges
+        requires bound { length transitions.now ≤ 512 }
+        requires small_places { SmallPlaces (map place_of transitions.now) }
+        ensures { result ≡ silent_edges role (map place_of transitions.now) }
+    {
+        Edges {
+            list: collect(transitions, |t| silent_edge(role, t)),
+        }
+    }
+
+    // All steps, backwards.
+    pub(crate) fn back(transitions: &[Transition]) -> Edges
+        requires bound { length transitions.now ≤ 512 }
+        requires small_places { SmallPlaces (map place_of transitions.now) }
+        ensures { result ≡ map back_edge_of (map place_of transitions.now) }
+    {
+        Edges {
+            list: collect(transitions, |t| Some(back_edge(t))),
+        }
+    }
+
+    // One pass over the edges: with the start of each, its end.
+    pub(crate) fn pass(&self, mask: u64) -> u64
+        ensures { result ≡ passed mask self.now }
+    {
+        let mut reached = mask;
+        for edge in self.list.as_slice() {
+            if has(reached, edge.from) {
+                reached = with(reached, edge.to);
+            }
+        }
+        reached
+    }
+}
+
+// The step of a transition in which the role has no part.
+fn silent_edge(role: u8, t: Transition) -> Option<Edge>
+    ensures { listed result ≡ silent_at role (place_of t) }
+{
+    if role == t.sender || role == t.receiver {
+        return None;
+    }
+    Some(Edge {
+        from: t.state,
+        to: t.branch.next,
+    })
+}
+
+fn back_edge(t: Transition) -> Edge
+    ensures { result ≡ back_edge_of (place_of t) }
+{
+    Edge {
+        from: t.branch.next,
+        to: t.state,
+    }
+}
