@@ -1,13 +1,17 @@
 -- A role has a part exactly when its sets are found without a fault.
-use Rattle.std.proofs.Common.{◌≡◌, ℕ, zero, suc, ◌+◌, ◌<◌, ◌≤◌, true, false, cond, eqb, ltb, ◌⊎◌, List, [], ◌∷◌, ◌++◌, map, length, get_or, is_some, Some, None, Decides, Option, sym, refl, ap, ◌∙◌, subst, inl, inr, arith}
+use Rattle.std.proofs.Common.{◌≡◌, ℕ, zero, suc, ◌+◌, ◌<◌, ◌≤◌, Bool, true, false, cond, eqb, ltb, ◌⊎◌, List, [], ◌∷◌, ◌++◌, map, length, get_or, is_some, Some, None, Decides, Option, sym, refl, ap, ◌∙◌, subst, inl, inr, arith}
 use Rattle.std.proofs.lemmas.List.{length-map, get_or-map, length_push, get_or_append_left, get_or_push}
 use Rattle.std.proofs.lemmas.Bool.{cases_Bool, cases_eq, cases_lt, cond-true, cond-false, eqb-true, eqb-false, lt-ltb, le-ltb}
 use Rattle.sheet.specs.Model.{Sheet}
 use Rattle.sheet.specs.Valid.{Valid}
 use Rattle.protocol.specs.Actions.{Action}
-use Rattle.protocol.specs.Sets.{Step, Start, Led, Successor, After, Followed}
+use Rattle.protocol.specs.Sets.{Step, Start, Led, Successor, After}
 use Rattle.protocol.specs.Sound.{Sound}
 use Rattle.protocol.specs.Accepted.{HasPart}
+use Rattle.protocol.proofs.Closures.{sound_within}
+use Rattle.protocol.proofs.Found.{Of, Is, found_part}
+use Rattle.protocol.proofs.Known.{label_known}
+use Rattle.protocol.proofs.Turns.{asked_label}
 use Rattle.parting.specs.declared.act.Act.{Act}
 use Rattle.parting.specs.declared.fault.PartFault.{PartFault}
 use Rattle.parting.specs.declared.fault.PartFault.TheVariants.{Sets}
@@ -19,12 +23,10 @@ use Rattle.parting.specs.Judge.{in_set, first_with, first_failing_point}
 use Rattle.parting.specs.Family.{View, view_of, ends, start_set, successor, position, entered, label_entered, followed, Found, sets, stopped, visited, explored, family_of, fault_of_point}
 use Rattle.parting.proofs.Entering.{entered_known, entered_full, entered_new}
 use Rattle.parting.proofs.Following.{followed_some, followed_none}
-use Rattle.parting.proofs.Likeness.{Within, successor_within, sound_like}
 use Rattle.parting.proofs.Pigeons.{pigeons}
 use Rattle.parting.proofs.Same.{decided_same}
 use Rattle.parting.proofs.Soundness.{Small, judged_sound, sound_judged}
 use Rattle.parting.proofs.Successors.{start_decides, start_small, successor_decides, successor_small, unlabelled, Reached, start_reached, successor_reached}
-use Rattle.parting.proofs.Unique.{good_branch, turn_label}
 
 -- a set stands among those found
 abbrev pub Stands : ℕ → List ℕ → Type 0
@@ -273,7 +275,7 @@ module _ (sh : Sheet) (valid : Valid sh) (m : ℕ) where
 
         go : (o : Option Point) → first_failing_point v.leading mask (in_set mask v.acts) ≡ o → Visiting
         go None e = after e (following mask good_mask labels 0 found kept.pool)
-        go (Some p) e = unsound (fault_of_point p m k) (rw e) (λ ok. let q = sym e ∙ sound_judged sh valid m mask good_mask.small ok in let z : ◌≡◌ {A = ℕ} 0 1 = cc in omega arith)
+        go (Some p) e = unsound (fault_of_point p m k) (rw e) (λ ok. let q = sym e ∙ sound_judged sh valid m mask good_mask.small ok in cc)
 
   -- how the exploring ends
   pub data Ending (o : Found) : Type 0 where
@@ -306,60 +308,36 @@ module _ (sh : Sheet) (valid : Valid sh) (m : ℕ) where
   unfolding family_of
   family_ends = ending 33 0 (start_set v ∷ []) kept_start (omega arith)
 
-  pub label_known : {s t : ℕ} {a : Action} {l : ℕ} → Step sh m s a t → a.label ≡ l → l < length sh.labels
-  label_known {a = a} st e =
-      let known = (good_branch sh valid st.place st.has).label in
-      omega (arith, known, turn_label m st.place a st.acts, e)
+  pub label_below : {s t : ℕ} {a : Action} {l : ℕ} → Step sh m s a t → a.label ≡ l → l < length sh.labels
+  label_below {a = a} st e = omega (arith, label_known sh valid st.place st.has, asked_label m st.place a st.acts, e)
 
   -- the sets found are all the sets
   module _ (F : List ℕ) (kept : Kept (length F) F) where
-    pub set_after : (ls : List ℕ) (X : ℕ → Type 0) (i : ℕ) → i < length F → Within X (In (get_or F i 0)) → Within (In (get_or F i 0)) X → Followed sh m X ls
-        → (j : ℕ) × (j < length F) × ((s : ℕ) → Decides (has (get_or F j 0) s) (After sh m X ls s))
-    set_after [] X i h to back f = (i, h, λ s. (back s, to s))
-    set_after (l ∷ ls) X i h to back f = go (λ Y j k a b g. set_after ls Y j k a b g) (kept.done i h l known)
+    at : (i : ℕ) → i < length (map has F) → (i < length F) × (get_or (map has F) i (λ _. false) ≡ has (get_or F i 0))
+    at i h = let l : i < length F = omega (arith, length-map F has, h) in (l, get_or-map has F i 0 (λ _. false) l)
+
+    goes_on : (i : ℕ) → i < length (map has F) → (l t : ℕ) → Led sh m (Of (map has F) i) l t → (j : ℕ) × (j < length (map has F)) × Is (map has F) j (Successor sh m (Of (map has F) i) l)
+    goes_on i h l t d = subst (λ (f : ℕ → Bool). (j : ℕ) × (j < length (map has F)) × Is (map has F) j (Successor sh m (λ s. f s ≡ true) l)) (sym (at i h).1) (go (subst (λ (f : ℕ → Bool). Led sh m (λ s. f s ≡ true) l t) (at i h).1 d) (kept.done i (at i h).0 l (label_below d.step d.labelled)))
       where
-        mask : ℕ
-        mask = get_or F i 0
-
-        small : Small mask
-        small = (kept.pool.good i h).small
-
-        led : Led sh m (In (get_or F i 0)) l f.0.0
-        led = record { state = f.0.1.state; inside = to f.0.1.state f.0.1.inside; action = f.0.1.action; labelled = f.0.1.labelled; step = f.0.1.step }
-
-        known : l < length sh.labels
-        known = label_known f.0.1.step f.0.1.labelled
-
-        Rec : Type 1
-        Rec = (Y : ℕ → Type 0) (j : ℕ) → j < length F → Within Y (In (get_or F j 0)) → Within (In (get_or F j 0)) Y → Followed sh m Y ls → (k : ℕ) × (k < length F) × ((s : ℕ) → Decides (has (get_or F k 0) s) (After sh m Y ls s))
-
-        go : Rec → (first_with l (in_set (get_or F i 0) v.acts) ≡ None) ⊎ Stands (successor v (get_or F i 0) l) F → (j : ℕ) × (j < length F) × ((s : ℕ) → Decides (has (get_or F j 0) s) (After sh m (Successor sh m X l) ls s))
-        go rec (inl e) = absurd (unlabelled sh valid m (get_or F i 0) (kept.pool.good i h).small l e f.0.0 led)
-        go rec (inr st) =
-            let d = successor_decides sh valid m (get_or F i 0) (kept.pool.good i h).small l in
-            rec (Successor sh m X l) st.0 st.1
-            (λ s x. ap (λ y. has y s) st.2 ∙ (d s).1 (successor_within sh m X (In (get_or F i 0)) to l s x))
-            (λ s x. successor_within sh m (In (get_or F i 0)) X back l s ((d s).0 (ap (λ y. has y s) (sym st.2) ∙ x)))
-            f.1
+        go : Led sh m (In (get_or F i 0)) l t → (first_with l (in_set (get_or F i 0) v.acts) ≡ None) ⊎ Stands (successor v (get_or F i 0) l) F → (j : ℕ) × (j < length (map has F)) × Is (map has F) j (Successor sh m (In (get_or F i 0)) l)
+        go led (inl e) = absurd (unlabelled sh valid m (get_or F i 0) (kept.pool.good i (at i h).0).small l e t led)
+        go led (inr st) =
+            let k : st.0 < length (map has F) = omega (arith, length-map F has, st.1) in
+            (st.0, k, λ s. rw ((at st.0 k).1, st.2) (successor_decides sh valid m (get_or F i 0) (kept.pool.good i (at i h).0).small l s))
 
     pub has_part : HasPart sh m
-    has_part = record {
-      sound = λ ls f. let r = at ls f in sound_like sh m (In (get_or F r.0 0)) (After sh m (Start sh m) ls) (λ s x. (r.2 s).1 x) (λ s x. (r.2 s).0 x) (kept.sound r.0 r.1);
-      sets = map has F;
-      few = omega (arith, length-map F has, kept.pool.few);
-      all = λ ls f. let r = at ls f in (r.0, omega (arith, length-map F has, r.1), λ s. subst (λ g. Decides (g s) (After sh m (Start sh m) ls s)) (sym (get_or-map has F r.0 0 (λ _. false) r.1)) (r.2 s));
-    }
-      where
-        at : (ls : List ℕ) → Followed sh m (Start sh m) ls → (j : ℕ) × (j < length F) × ((s : ℕ) → Decides (has (get_or F j 0) s) (After sh m (Start sh m) ls s))
-        at ls f =
-            let d = start_decides sh valid m in
-            set_after ls (Start sh m) 0 kept.some (λ s x. ap (λ y. has y s) kept.first ∙ (d s).1 x) (λ s x. (d s).0 (ap (λ y. has y s) (sym kept.first) ∙ x)) f
+    has_part = found_part sh m (map has F) (record {
+      any = omega (arith, length-map F has, kept.some);
+      first = λ s. rw (get_or-map has F 0 0 (λ _. false) kept.some, kept.first) (start_decides sh valid m s);
+      sound = λ i h. subst (λ (f : ℕ → Bool). Sound sh m (λ s. f s ≡ true)) (sym (at i h).1) (kept.sound i (at i h).0);
+      next = goes_on;
+    }) (omega (arith, length-map F has, kept.pool.few))
 
   -- a set that is not sound, or one too many: the role has no part
   pub unsound_refused : (mask : ℕ) → Good mask → (Sound sh m (In mask) → ⊥) → HasPart sh m → ⊥
   unsound_refused mask g bad p =
       let r = g.reached in
-      bad (sound_like sh m (After sh m (Start sh m) r.labels) (In mask) (λ s x. (r.is s).0 x) (λ s x. (r.is s).1 x) (p.sound r.labels r.followed))
+      bad (sound_within sh m (After sh m (Start sh m) r.labels) (In mask) (λ s x. (r.is s).1 x) (λ s x. (r.is s).0 x) (p.sound r.labels r.followed))
 
   pub overfull_refused : Overfull → HasPart sh m → ⊥
   overfull_refused o p = clash (pigeons 32 place within)
@@ -406,7 +384,7 @@ module _ (sh : Sheet) (valid : Valid sh) (m : ℕ) where
   refused f e p = go family_ends
     where
       go : Ending (family_of m v labels) → ⊥
-      go (all_found F q w) = let z : ◌≡◌ {A = ℕ} 0 1 = cc in omega arith
+      go (all_found F q w) = cc
       go (at_unsound g mask q good bad) = unsound_refused mask good bad p
       go (at_overfull g q o) = overfull_refused o p
 
@@ -415,5 +393,5 @@ module _ (sh : Sheet) (valid : Valid sh) (m : ℕ) where
     where
       go : Ending (family_of m v labels) → Kept (length F) F
       go (all_found G q w) = let same : G ≡ F = cc in subst (λ l. Kept (length l) l) same w
-      go (at_unsound g mask q good bad) = let z : ◌≡◌ {A = ℕ} 0 1 = cc in absurd (omega arith)
-      go (at_overfull g q o) = let z : ◌≡◌ {A = ℕ} 0 1 = cc in absurd (omega arith)
+      go (at_unsound g mask q good bad) = absurd cc
+      go (at_overfull g q o) = absurd cc

@@ -1,5 +1,5 @@
 -- A loop that gathers what is listed of each element.
-use Rattle.std.proofs.Common.{◌≡◌, ℕ, ◌+◌, ◌<◌, ◌≤◌, Bool, true, false, cond, List, [], ◌∷◌, ◌++◌, map, length, get_or, drop, filter, sym, refl, ap, ◌∙◌}
+use Rattle.std.proofs.Common.{◌≡◌, ℕ, ◌+◌, ◌<◌, ◌≤◌, Bool, true, false, cond, List, [], ◌∷◌, ◌++◌, length, get_or, drop, filter, sym, refl, ap, ◌∙◌}
 use Rattle.std.specs.Bool.{then_some}
 use Rattle.std.specs.List.{flat_map}
 use Rattle.std.proofs.lemmas.List.{append-nil, append_assoc, at_drop_more, at_drop_all}
@@ -19,15 +19,7 @@ module _ {X Y : Type 0} (f : X → List Y) (xs : List X) (found : List Y) (i : �
   pub collecting_all : length xs ≤ i → Collecting f xs found i → found ≡ flat_map f xs
   collecting_all h c = sym (append-nil found) ∙ ap (λ l. found ++ l) (sym (at_drop_all (flat_map f) xs i h)) ∙ c
 
-pub joined_map : {X Y Z : Type 0} (f : Y → List Z) (g : X → Y) (xs : List X) → flat_map (λ x. f (g x)) xs ≡ flat_map f (map g xs)
-joined_map f g [] = refl
-joined_map f g (x ∷ xs) = ap (λ l. f (g x) ++ l) (joined_map f g xs)
-
--- one element of each, or those that pass a test
-pub joined_single : {X Y : Type 0} (f : X → Y) (xs : List X) → flat_map (λ x. f x ∷ []) xs ≡ map f xs
-joined_single f [] = refl
-joined_single f (x ∷ xs) = ap (λ l. f x ∷ l) (joined_single f xs)
-
+-- those that pass a test
 abbrev pub kept : {X : Type 0} → (X → Bool) → X → List X
 kept p x = cond (p x) (x ∷ []) []
 

@@ -1,5 +1,5 @@
 -- The tests of judging decide the points of soundness.
-use Rattle.std.proofs.Common.{◌≡◌, ℕ, ◌<◌, Bool, true, false, ◌&&◌, eqb, ◌⊎◌, List, [], ◌∷◌, Some, None, Decides, Option, sym, refl, ap, ◌∙◌, subst, inl, inr, arith}
+use Rattle.std.proofs.Common.{◌≡◌, ℕ, ◌<◌, Bool, true, false, ◌&&◌, eqb, ◌⊎◌, List, [], ◌∷◌, Some, None, Decides, Option, sym, refl, ap, ◌∙◌, subst, inl, inr}
 use mathlib.Core.Bool.{beq}
 use mathlib.Core.List.{Memᴰ}
 use Rattle.std.proofs.lemmas.Bool.{cases_Bool, eq-eqb, eqb-true, or_cases, or_left, or_right, false≢true, both_ways, cond-true, cond-false}
@@ -31,20 +31,20 @@ way_same Receives Receives e = refl
 
 pub same_way : (v w : Way) → way_of v ≡ way_of w → sends v ≡ sends w
 same_way Sends Sends e = refl
-same_way Sends Receives e = let z : ◌≡◌ {A = ℕ} 0 1 = cc in absurd (omega arith)
-same_way Receives Sends e = let z : ◌≡◌ {A = ℕ} 0 1 = cc in absurd (omega arith)
+same_way Sends Receives e = absurd cc
+same_way Receives Sends e = absurd cc
 same_way Receives Receives e = refl
 
 pub way_sends : (v : Way) → way_of v ≡ meant.sends → sends v ≡ true
 way_sends Sends e = refl
-way_sends Receives e = let z : ◌≡◌ {A = ℕ} 0 1 = cc in absurd (omega arith)
+way_sends Receives e = absurd cc
 
 pub sends_way : (v : Way) → sends v ≡ true → way_of v ≡ meant.sends
 sends_way Sends e = refl
 sends_way Receives e = absurd (false≢true e)
 
 pub way_receives : (v : Way) → way_of v ≡ meant.receives → sends v ≡ false
-way_receives Sends e = let z : ◌≡◌ {A = ℕ} 0 1 = cc in absurd (omega arith)
+way_receives Sends e = absurd cc
 way_receives Receives e = refl
 
 pub receives_way : (v : Way) → sends v ≡ false → way_of v ≡ meant.receives
@@ -89,7 +89,7 @@ one_to (h ∷ t) p = (every_decides (is_same_side h) (Sided h) (side_decides h) 
 
 -- the first act with a label
 first_is : (l : ℕ) (xs : List Act) (f : Act) → first_with l xs ≡ Some f → Memᴰ f xs × (f.label ≡ l)
-first_is l [] f e = let z : ◌≡◌ {A = ℕ} 0 1 = cc in absurd (omega arith)
+first_is l [] f e = absurd cc
 first_is l (x ∷ xs) f e = go (λ q. first_is l xs f q) (cases_Bool (eqb x.label l))
   where
     go : (first_with l xs ≡ Some f → Memᴰ f xs × (f.label ≡ l)) → (eqb x.label l ≡ true) ⊎ (eqb x.label l ≡ false) → Memᴰ f (x ∷ xs) × (f.label ≡ l)
@@ -124,7 +124,7 @@ agrees_decides : (xs : List Act) (x : Act) → Decides (agrees (first_with x.lab
 agrees_decides xs x = go (first_with x.label xs) refl
   where
     go : (o : Option Act) → first_with x.label xs ≡ o → Decides (agrees (first_with x.label xs) x) (Agreed xs x)
-    go None e = (λ _ f q. let z : ◌≡◌ {A = ℕ} 0 1 = cc in absurd (omega arith), λ _. ap (λ o. agrees o x) e)
+    go None e = (λ _ f q. absurd cc, λ _. ap (λ o. agrees o x) e)
     go (Some g) e =
         let d = timing_decides g x in
         (λ q f r. let s : g ≡ f = cc in subst (λ z. Timed z x) s (d.0 (sym (ap (λ o. agrees o x) e) ∙ q)), λ a. ap (λ o. agrees o x) e ∙ d.1 (a g e))

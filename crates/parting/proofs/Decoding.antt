@@ -24,14 +24,14 @@ use Rattle.parting.specs.View.{make_place, place_of, places_of, places_from}
 
 -- the state's bytes are what the sheet hands out
 got : (r : Option Piece) (p : Part) → option_map seen r ≡ Some p → p.kind ≡ kind.State → body_in r ≡ p.bytes
-got None p e k = let z : ◌≡◌ {A = ℕ} 0 1 = cc in absurd (omega arith)
-got (Some (piece.Role name offset)) p e k = let z : ◌≡◌ {A = ℕ} 0 1 = cc in absurd (omega arith)
-got (Some (piece.Label name offset)) p e k = let z : ◌≡◌ {A = ℕ} 0 1 = cc in absurd (omega arith)
+got None p e k = absurd cc
+got (Some (piece.Role name offset)) p e k = absurd cc
+got (Some (piece.Label name offset)) p e k = absurd cc
 got (Some (piece.State bytes offset)) p e k = cc
 
 got_none : (r : Option Piece) → option_map seen r ≡ None → body_in r ≡ []
 got_none None e = refl
-got_none (Some x) e = let z : ◌≡◌ {A = ℕ} 0 1 = cc in absurd (omega arith)
+got_none (Some x) e = absurd cc
 
 pub body_handed : (sh : Sheet) (r : Option Piece) (n : ℕ) → option_map seen r ≡ handed sh kind.State n → body_in r ≡ body (get_or sh.states n ended)
 body_handed sh r n e = ⊎_elim
@@ -104,7 +104,7 @@ decoded_all xs slots count s h d =
 -- a sheet that has been read is valid
 none_from_test : {X : Type 0} (o : Option X) → is_some o ≡ false → o ≡ None
 none_from_test None e = refl
-none_from_test (Some x) e = let z : ◌≡◌ {A = ℕ} 0 1 = cc in absurd (omega arith)
+none_from_test (Some x) e = absurd cc
 
 pub sheet_valid : (s : ReadSheet) → Valid (sheet_of s)
 sheet_valid s = valid_model (bytes_of s) ((clear_fault (bytes_of s)).0 (none_from_test (fault (bytes_of s)) s.sound))

@@ -15,12 +15,12 @@ use Rattle.parting.proofs.Entering.{entered_new}
 drop_head : (k x : ℕ) (xs ys : List ℕ) → drop k xs ≡ x ∷ ys → (k < length xs) × (get_or xs k 0 ≡ x) × (ys ≡ drop (k + 1) xs)
 drop_head k x xs ys e = ⊎_elim
     (λ h. let m = drop_more xs k 0 h in (h, (cc), (cc)))
-    (λ h. let m = drop_all k xs h in let z : ◌≡◌ {A = ℕ} 0 1 = cc in absurd (omega arith))
+    (λ h. let m = drop_all k xs h in absurd cc)
     (cases_lt k (length xs))
 
 drop-none : (k : ℕ) (xs : List ℕ) → drop k xs ≡ [] → length xs ≤ k
 drop-none k xs e = ⊎_elim
-    (λ h. let m = drop_more xs k 0 h in let z : ◌≡◌ {A = ℕ} 0 1 = cc in absurd (omega arith))
+    (λ h. let m = drop_more xs k 0 h in absurd cc)
     (λ h. h)
     (cases_lt k (length xs))
 
@@ -84,7 +84,7 @@ module _ (found : Sets) where
 -- the first set
 pub outcome_some : (r : Bool) (xs ys : List ℕ) → outcome r xs ≡ Some ys → xs ≡ ys
 outcome_some true xs ys e = cc
-outcome_some false xs ys e = let z : ◌≡◌ {A = ℕ} 0 1 = cc in absurd (omega arith)
+outcome_some false xs ys e = absurd cc
 
 pub start_is : (v : View) → spread v.silent 1 ≡ start_set v
 unfolding start_set add

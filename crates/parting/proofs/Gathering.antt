@@ -1,8 +1,11 @@
 -- What a mask that gathers from a list has.
-use Rattle.std.proofs.Common.{◌≡◌, ℕ, Bool, true, false, cond, ◌&&◌, eqb, ◌⊎◌, List, [], ◌∷◌, Decides, filter, sym, refl, ap, ◌∙◌, subst, inl, inr}
+use Rattle.std.proofs.Common.{◌≡◌, ℕ, Bool, true, false, cond, eqb, ◌⊎◌, List, [], ◌∷◌, Decides, filter, get_or, sym, refl, ap, ◌∙◌, subst, inl, inr}
 use mathlib.Core.List.{Memᴰ}
-use Rattle.std.specs.List.{AllByRecursion, list_all}
-use Rattle.std.proofs.lemmas.Bool.{eq-eqb, eqb-true, cases_Bool, cond-true, cond-false, or_cases, or_left, or_right, and_parts, and_from, false≢true}
+use Rattle.std.specs.List.{All, list_all}
+use Rattle.std.proofs.lemmas.List.Elements.{All-get_or}
+use Rattle.std.proofs.lemmas.Bool.Decides.{Decides-like, Decides-by_and}
+use Rattle.protocol.proofs.Listed.{index_of, member_at}
+use Rattle.std.proofs.lemmas.Bool.{eq-eqb, eqb-true, cases_Bool, cond-true, cond-false, or_cases, or_left, or_right, false≢true}
 use Rattle.parting.specs.Masks.{has, add, In, gather}
 use Rattle.parting.proofs.Bits.{has_add, has_none}
 
@@ -54,17 +57,15 @@ module _ {X : Type 0} (test : X → Bool) (f : X → ℕ) where
   gather_none mask [] n = refl
   gather_none mask (x ∷ xs) n = ap (λ m. gather test f m xs) (cond-false (test x) (add (f x) mask) mask (n x (Memᴰ.head refl))) ∙ gather_none mask xs (λ y i. n y (Memᴰ.tail i))
 
--- tests over lists
+-- what holds of each element holds of the members, and the other way round
+pub all_mem : {A : Type 0} (P : A → Type 0) (xs : List A) → All P xs → (x : A) → Memᴰ x xs → P x
+all_mem P xs h x i = let k = index_of xs x x i in subst P k.2 (All-get_or P xs k.0 x k.1 h)
+
+pub mem_all : {A : Type 0} (P : A → Type 0) (xs : List A) → ((x : A) → Memᴰ x xs → P x) → All P xs
+mem_all P xs f = λ k d h. f (get_or xs k d) (member_at xs d k h)
+
 pub every_decides : {A : Type 0} (f : A → Bool) (P : A → Type 0) → ((x : A) → Decides (f x) (P x)) → (xs : List A) → Decides (list_all f xs) ((x : A) → Memᴰ x xs → P x)
-every_decides f P each [] = (λ _ x i. elim i [ ], λ _. refl)
-every_decides {A} f P each (x ∷ xs) = go (every_decides f P each xs)
-  where
-    go : Decides (list_all f xs) ((y : A) → Memᴰ y xs → P y) → Decides (f x && list_all f xs) ((y : A) → Memᴰ y (x ∷ xs) → P y)
-    go rest = (there, λ h. and_from (f x) (list_all f xs) ((each x).1 (h x (Memᴰ.head refl))) (rest.1 (λ y i. h y (Memᴰ.tail i))))
-      where
-        there : (f x && list_all f xs) ≡ true → (y : A) → Memᴰ y (x ∷ xs) → P y
-        there q y (Memᴰ.head e) = rw e ((each x).0 (and_parts (f x) (list_all f xs) q).0)
-        there q y (Memᴰ.tail i) = rest.0 (and_parts (f x) (list_all f xs) q).1 y i
+every_decides f P each xs = Decides-like (list_all f xs) (all_mem P xs) (mem_all P xs) (Decides-by_and f P (list_all f) each refl (λ _ _. refl) xs)
 
 -- what a filter keeps
 pub kept_from : {A : Type 0} (test : A → Bool) (xs : List A) (x : A) → Memᴰ x (filter test xs) → Memᴰ x xs × (test x ≡ true)
@@ -94,12 +95,3 @@ kept_to test (y ∷ xs) x (Memᴰ.tail i) t = go (test y) (kept_to test xs x i t
     go : (b : Bool) → Memᴰ x (filter test xs) → Memᴰ x (cond b (y ∷ filter test xs) (filter test xs))
     go true r = Memᴰ.tail r
     go false r = r
-
-pub all_mem : {A : Type 0} (P : A → Type 0) (xs : List A) → AllByRecursion P xs → (x : A) → Memᴰ x xs → P x
-all_mem P [] h x i = elim i [ ]
-all_mem P (y ∷ xs) h x (Memᴰ.head q) = subst P (sym q) h.0
-all_mem P (y ∷ xs) h x (Memᴰ.tail i) = all_mem P xs h.1 x i
-
-pub mem_all : {A : Type 0} (P : A → Type 0) (xs : List A) → ((x : A) → Memᴰ x xs → P x) → AllByRecursion P xs
-mem_all P [] h = tt
-mem_all P (x ∷ xs) h = (h x (Memᴰ.head refl), mem_all P xs (λ y i. h y (Memᴰ.tail i)))

@@ -11,10 +11,8 @@ mod Entering
 mod Following
 mod Exploring
 mod Decoding
-mod Likeness
 mod Gathering
 mod Deciding
-mod Unique
 mod Soundness
 mod Pigeons
 mod Successors

@@ -6,6 +6,7 @@ use Rattle.sheet.specs.Model.{Sheet}
 use Rattle.sheet.specs.Valid.{Valid}
 use Rattle.protocol.specs.Actions.{Action, Timing}
 use Rattle.protocol.specs.Sets.{Step, Acts, Start, Led, Successor}
+use Rattle.protocol.proofs.Known.{same_step}
 use Rattle.parting.specs.declared.act.Act.{Act}
 use Rattle.parting.specs.declared.act.Way.{Way}
 use Rattle.parting.specs.declared.act.Way.TheVariants.{Sends, Receives}
@@ -18,10 +19,9 @@ use Rattle.parting.specs.Family.{View, view_of, successor, position}
 use Rattle.parting.specs.Tables.{kind_by, local_kind, moved, move_under, Table}
 use Rattle.parting.specs.Local.{Always, KindIs, set_of, Leads, MoveIs, LocalOf}
 use Rattle.protocol.specs.Sound.{Sound}
-use Rattle.parting.proofs.Acceptance.{Kept, Stands, position_stands, position_absent, label_known}
+use Rattle.parting.proofs.Acceptance.{Kept, Stands, position_stands, position_absent, label_below}
 use Rattle.parting.proofs.Deciding.{first_act}
 use Rattle.parting.proofs.Soundness.{Small, act_acts, acts_act}
-use Rattle.parting.proofs.Unique.{same_step}
 use Rattle.parting.proofs.Successors.{start_decides, successor_decides, labelled_led, unlabelled}
 
 module _ (sh : Sheet) (valid : Valid sh) (m : ℕ) where
@@ -71,7 +71,7 @@ module _ (sh : Sheet) (valid : Valid sh) (m : ℕ) where
         by : (w : Way) → h.way ≡ w → a.timing ≡ (action_of h).timing
         by Sends q =
             let c = ok.same_offer h.state s r.0 x (action_of h) a (h.next, r.1) act (ap way_of q) in
-            let e : c.0 ≡ a = same_step sh valid m s c.1.0 act.0 c.0 a c.1.1 act.1 (c.2 ∙ sym l) in
+            let e : c.0 ≡ a = same_step sh valid m s c.0 a c.1 act (c.2 ∙ sym l) in
             ap (λ (z : Action). z.timing) (sym e) ∙ c.3
         by Receives q = ok.no_clash s h.state x r.0 a (action_of h) act (h.next, r.1) (same ∙ ap way_of q) l
 
@@ -100,7 +100,7 @@ module _ (sh : Sheet) (valid : Valid sh) (m : ℕ) where
           stands k = pick (kept.done i h label k)
             where
               pick : (first_with label (in_set (get_or F i 0) v.acts) ≡ None) ⊎ Stands (successor v (get_or F i 0) label) F → position (successor v (get_or F i 0) label) F < length F
-              pick (inl n) = absurd (let z : ◌≡◌ {A = ℕ} 0 1 = cc in omega arith)
+              pick (inl n) = absurd cc
               pick (inr s) = under (cases_lt (position (successor v (get_or F i 0) label) F) (length F))
                 where
                   under : (position (successor v (get_or F i 0) label) F < length F) ⊎ (length F ≤ position (successor v (get_or F i 0) label) F) → position (successor v (get_or F i 0) label) F < length F
@@ -109,7 +109,7 @@ module _ (sh : Sheet) (valid : Valid sh) (m : ℕ) where
 
           go : (t : ℕ) × Led sh m (In (get_or F i 0)) label t → Leads sh m part (In (get_or F i 0)) label (record { row = f.row; reset = f.reset; next = position (successor v (get_or F i 0) label) F })
           go d =
-              let k : position (successor v (get_or F i 0) label) F < length F = stands (label_known sh valid m d.1.step d.1.labelled) in
+              let k : position (successor v (get_or F i 0) label) F < length F = stands (label_below sh valid m d.1.step d.1.labelled) in
               let r = first_act label (in_set (get_or F i 0) v.acts) f e in
               record {
                 target = d.0;

@@ -1,17 +1,17 @@
 -- A set passes the judging exactly when it is sound.
-use Rattle.std.proofs.Common.{◌≡◌, ℕ, ◌<◌, Bool, true, false, not, ◌&&◌, ◌||◌, ◌⊎◌, List, [], ◌∷◌, map, Some, None, Decides, Option, sym, refl, ap, ◌∙◌, subst, inl, inr, arith}
+use Rattle.std.proofs.Common.{◌≡◌, ℕ, ◌<◌, Bool, true, false, not, ◌&&◌, ◌||◌, ◌⊎◌, List, [], ◌∷◌, map, None, Decides, Option, sym, refl, ap, ◌∙◌, subst, inl, inr}
+use mathlib.Core.List.Memᴰ
 use mathlib.Core.List.{Memᴰ}
 use Rattle.std.proofs.lemmas.Bool.{cases_Bool, and_parts, and_from, or_cases, or_left, or_right, both_ways, cond-true, cond-false, not-true, not_from_false}
 use Rattle.sheet.specs.Model.{Sheet}
 use Rattle.sheet.specs.Valid.{Valid}
-use Rattle.protocol.specs.Places.{Place}
 use Rattle.protocol.specs.Actions.{Action}
 use Rattle.protocol.specs.Sets.{Step, Acts}
+use Rattle.protocol.proofs.Known.{same_step}
 use Rattle.protocol.specs.Sound.{OneSide, SameOffer, NoClash, Reaches, now, later, Told, Sound}
 use Rattle.parting.specs.declared.act.Act.{Act}
 use Rattle.parting.specs.declared.edge.Edge.{Edge}
 use Rattle.parting.specs.declared.point.Point.{Point}
-use Rattle.parting.specs.declared.point.Point.TheVariants.{Crossed, Offer, Clash, Untold}
 use Rattle.parting.specs.Masks.{has, In}
 use Rattle.parting.specs.Spread.{Reach, start, along}
 use Rattle.parting.specs.View.{places, acts, back_edge, acting_states_of, leading, action_of}
@@ -19,19 +19,7 @@ use Rattle.parting.specs.Judge.{in_set, sends, is_one_sided, unclashed, is_same_
 use Rattle.parting.proofs.Deciding.{way_sends, sends_way, way_receives, receives_way, same_way, Sided, Timed, Alike, Found, Pairs, one_from, one_to, unclashed_from, unclashed_to, same_labels_from, same_labels_to, below_from, below_to}
 use Rattle.parting.proofs.Gathering.{gather_to, gathered, kept_from, kept_to}
 use Rattle.parting.proofs.Spreading.{spread_decides}
-use Rattle.parting.proofs.Unique.{same_step}
 use Rattle.parting.proofs.Viewing.{has_from, has_to, act_step, step_act}
-
--- edges backwards
-back_from : (ps : List Place) (e : Edge) → Memᴰ e (map back_edge ps) → (p : Place) × Memᴰ p ps × (e.from ≡ p.branch.next) × (e.to ≡ p.state)
-back_from [] e i = elim i [ ]
-back_from (p ∷ ps) e (mathlib.Core.List.Memᴰ.head q) = (p, mathlib.Core.List.Memᴰ.head refl, ap (λ (z : Edge). z.from) q, ap (λ (z : Edge). z.to) q)
-back_from (p ∷ ps) e (mathlib.Core.List.Memᴰ.tail i) = let r = back_from ps e i in (r.0, mathlib.Core.List.Memᴰ.tail r.1, r.2, r.3)
-
-back_to : (ps : List Place) (p : Place) → Memᴰ p ps → Memᴰ (back_edge p) (map back_edge ps)
-back_to [] p i = elim i [ ]
-back_to (x ∷ ps) p (mathlib.Core.List.Memᴰ.head q) = mathlib.Core.List.Memᴰ.head (ap back_edge q)
-back_to (x ∷ ps) p (mathlib.Core.List.Memᴰ.tail i) = mathlib.Core.List.Memᴰ.tail (back_to ps p i)
 
 module _ (sh : Sheet) (m : ℕ) where
   abbrev Back : List Edge
@@ -46,23 +34,20 @@ module _ (sh : Sheet) (m : ℕ) where
       let st = act_step sh m r.0 r.1 in
       now (action_of r.0) (r.0.next, subst (λ k. Step sh m k (action_of r.0) r.0.next) r.3 st)
   reach_reaches s (along e i r q) =
-      let f = back_from (places sh) e i in
-      later f.0 (has_from sh f.0 f.1) (sym f.3 ∙ q) (subst (Reaches sh m) f.2 (reach_reaches e.from r))
+      let f = Memᴰ.of_map back_edge (places sh) i in
+      later f.0 (has_from sh f.0 f.1) (ap (λ (z : Edge). z.to) f.2 ∙ q) (subst (Reaches sh m) (ap (λ (z : Edge). z.from) (sym f.2)) (reach_reaches e.from r))
 
   reaches_reach : (s : ℕ) → Reaches sh m s → Reach Back Acting s
   reaches_reach s (now a x) =
       let r = step_act sh m s x.0 a x.1 in
       start (subst Acting r.2 (gather_to (λ (b : Act). true) (λ b. b.state) 0 (acts m (places sh)) r.0 r.1 refl))
-  reaches_reach s (later p h e r) = along (back_edge p) (back_to (places sh) p (has_to sh p h)) (reaches_reach p.branch.next r) e
+  reaches_reach s (later p h e r) = along (back_edge p) (Memᴰ.map back_edge (has_to sh p h)) (reaches_reach p.branch.next r) e
 
   pub leading_decides : (s : ℕ) → Decides (has (leading m (places sh)) s) (Reaches sh m s)
   unfolding leading
   leading_decides s =
       let d = spread_decides Back (acting_states_of (acts m (places sh))) s in
       (λ q. reach_reaches s (d.0 q), λ x. d.1 (reaches_reach s x))
-
-some_none : (p : Point) → ◌≡◌ {A = Option Point} (Some p) None → ⊥
-some_none p e = let z : ◌≡◌ {A = ℕ} 0 1 = cc in omega arith
 
 -- every state of the mask is a number below 64
 abbrev pub Small : ℕ → Type 0
@@ -157,7 +142,7 @@ module _ (sh : Sheet) (valid : Valid sh) (m mask : ℕ) (small : Small mask) whe
               let z = offer_pairs ok x i y j (first_side true h rest q one w x i) in
               let sz = (act_acts z.0 z.1).1 in
               let sy = (act_acts y j).1 in
-              let e : action_of z.0 ≡ action_of y = same_step sh valid m y.state z.0.next y.next (action_of z.0) (action_of y) (subst (λ n. Step sh m n (action_of z.0) z.0.next) z.2 sz) sy (z.3 ∙ l) in
+              let e : action_of z.0 ≡ action_of y = same_step sh valid m y.state (action_of z.0) (action_of y) (z.0.next, subst (λ n. Step sh m n (action_of z.0) z.0.next) z.2 sz) (y.next, sy) (z.3 ∙ l) in
               sym z.4 ∙ ap (λ (a : Action). a.timing) e
 
           side : (sends h.way ≡ true) ⊎ (sends h.way ≡ false) → (not (sends h.way) || (is_same_labels h.state (h ∷ rest) && unclashed (h ∷ rest))) ≡ true
@@ -248,19 +233,19 @@ module _ (sh : Sheet) (valid : Valid sh) (m mask : ℕ) (small : Small mask) whe
       fourth a b c (inl d) =
           let one = side_from a in
           record { one_side = one; same_offer = offer_from one b; no_clash = clash_from one c; told = told_from d }
-      fourth a b c (inr d) = absurd (some_none Untold (sym (cond-true _ _ _ a ∙ cond-true _ _ _ b ∙ cond-true _ _ _ c ∙ cond-false _ _ _ d) ∙ e))
+      fourth a b c (inr d) = absurd (cc (sym (cond-true _ _ _ a ∙ cond-true _ _ _ b ∙ cond-true _ _ _ c ∙ cond-false _ _ _ d) ∙ e))
 
       third : is_one_sided xs ≡ true → is_same_offer xs ≡ true → (is_unclashed_list xs ≡ true) ⊎ (is_unclashed_list xs ≡ false) → Sound sh m (In mask)
       third a b (inl c) = fourth a b c (cases_Bool (is_told_if_acting L mask xs))
-      third a b (inr c) = absurd (some_none Clash (sym (cond-true _ _ _ a ∙ cond-true _ _ _ b ∙ cond-false _ _ _ c) ∙ e))
+      third a b (inr c) = absurd (cc (sym (cond-true _ _ _ a ∙ cond-true _ _ _ b ∙ cond-false _ _ _ c) ∙ e))
 
       second : is_one_sided xs ≡ true → (is_same_offer xs ≡ true) ⊎ (is_same_offer xs ≡ false) → Sound sh m (In mask)
       second a (inl b) = third a b (cases_Bool (is_unclashed_list xs))
-      second a (inr b) = absurd (some_none Offer (sym (cond-true _ _ _ a ∙ cond-false _ _ _ b) ∙ e))
+      second a (inr b) = absurd (cc (sym (cond-true _ _ _ a ∙ cond-false _ _ _ b) ∙ e))
 
       first : (is_one_sided xs ≡ true) ⊎ (is_one_sided xs ≡ false) → Sound sh m (In mask)
       first (inl a) = second a (cases_Bool (is_same_offer xs))
-      first (inr a) = absurd (some_none Crossed (sym (cond-false _ _ _ a) ∙ e))
+      first (inr a) = absurd (cc (sym (cond-false _ _ _ a) ∙ e))
 
   pub sound_judged : Sound sh m (In mask) → failing ≡ None
   unfolding first_failing_point

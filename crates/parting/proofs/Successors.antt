@@ -1,11 +1,13 @@
 -- The computed sets are the sets: the start, and the successor under a label.
-use Rattle.std.proofs.Common.{◌≡◌, ℕ, ◌<◌, true, eqb, ◌⊎◌, List, [], ◌∷◌, ◌++◌, Some, None, Decides, Option, sym, ap, ◌∙◌, subst, inl, inr, arith}
+use Rattle.std.proofs.Common.{◌≡◌, ℕ, ◌<◌, true, eqb, ◌⊎◌, List, [], ◌∷◌, ◌++◌, Some, None, Decides, sym, ap, ◌∙◌, subst, inl, inr, arith}
 use Rattle.std.proofs.lemmas.Bool.{eq-eqb, eqb-true, or_cases, or_left, false≢true}
 use Rattle.sheet.specs.Model.{Sheet}
 use Rattle.sheet.specs.Valid.{Valid}
 use Rattle.protocol.specs.Places.{Place, Has}
 use Rattle.protocol.specs.Actions.{Action}
 use Rattle.protocol.specs.Sets.{Silent, here, on, Step, Start, Led, Successor, After, Followed}
+use Rattle.protocol.proofs.Closures.{silent_within, led_within, successor_within, after_push, followed_push}
+use Rattle.protocol.proofs.Known.{next_known}
 use Rattle.parting.specs.declared.act.Act.{Act}
 use Rattle.parting.specs.Masks.{has, add, In}
 use Rattle.parting.specs.Spread.{spread}
@@ -15,9 +17,7 @@ use Rattle.parting.specs.Family.{View, view_of, ends, start_set, successor}
 use Rattle.parting.proofs.Bits.{has_add, has_none}
 use Rattle.parting.proofs.Deciding.{first_found, first_act}
 use Rattle.parting.proofs.Gathering.{gather_to, gathered}
-use Rattle.parting.proofs.Likeness.{silent_within, led_within, successor_within, after_push, push_after, followed_push}
 use Rattle.parting.proofs.Soundness.{Small, act_acts, acts_act}
-use Rattle.parting.proofs.Unique.{good_branch}
 use Rattle.parting.proofs.Viewing.{silent_decides}
 
 zero_only : (s : ℕ) → In (add 0 0) s → s ≡ 0
@@ -35,7 +35,7 @@ module _ (sh : Sheet) (valid : Valid sh) (m : ℕ) where
   v = view_of m (places sh)
 
   next_small : (p : Place) → Has sh p → p.branch.next < 64
-  next_small p h = omega (arith, (good_branch sh valid p h).next, valid.state_count.1)
+  next_small p h = omega (arith, next_known sh valid p h, valid.state_count.1)
 
   silent_small : (X : ℕ → Type 0) → ((s : ℕ) → X s → s < 64) → (s : ℕ) → Silent sh m X s → s < 64
   silent_small X h s (here x) = h s x
@@ -93,9 +93,7 @@ module _ (sh : Sheet) (valid : Valid sh) (m : ℕ) where
     unlabelled e t d =
         let r = acts_act sh valid m mask small d.state t d.action d.inside d.step in
         let f = first_found label here_acts r.0 r.1 (ap (λ (a : Action). a.label) r.4 ∙ d.labelled) in
-        let z : ◌≡◌ {A = Option Act} None (Some f.0) = sym e ∙ f.1 in
-        let y : ◌≡◌ {A = ℕ} 0 1 = cc in
-        omega arith
+        cc (f.1)
 
   -- a mask is the set after some labels that can be followed
   pub record Reached (mask : ℕ) : Type 0 where
@@ -110,12 +108,13 @@ module _ (sh : Sheet) (valid : Valid sh) (m : ℕ) where
   successor_reached mask small label f e r =
       let X : ℕ → Type 0 = After sh m (Start sh m) r.labels in
       let d = labelled_led mask small label f e in
+      let more = after_push sh m (Start sh m) r.labels label in
       record {
         labels = r.labels ++ label ∷ [];
-        followed = followed_push sh m r.labels (Start sh m) label r.followed d.0 (led_within sh m (In mask) X (λ s x. (r.is s).0 x) label d.0 d.1);
+        followed = followed_push sh m (Start sh m) r.labels label d.0 r.followed (led_within sh m (In mask) X (λ s x. (r.is s).0 x) label d.0 d.1);
         is = λ s.
             let k = successor_decides mask small label s in (
-              λ x. push_after sh m r.labels (Start sh m) label s (successor_within sh m (In mask) X (λ t y. (r.is t).0 y) label s (k.0 x)),
-              λ x. k.1 (successor_within sh m X (In mask) (λ t y. (r.is t).1 y) label s (after_push sh m r.labels (Start sh m) label s x)),
+              λ x. subst (λ (Z : ℕ → Type 0). Z s) (sym more) (successor_within sh m (In mask) X (λ t y. (r.is t).0 y) label s (k.0 x)),
+              λ x. k.1 (successor_within sh m X (In mask) (λ t y. (r.is t).1 y) label s (subst (λ (Z : ℕ → Type 0). Z s) more x)),
             );
       }

@@ -1,28 +1,22 @@
 -- A role's view of a sheet says what the sheet says: its acts are the role's steps, and its silent edges are the steps without it.
-use Rattle.std.proofs.Common.{◌≡◌, ℕ, zero, suc, ◌+◌, true, false, eqb, ◌⊎◌, List, [], ◌∷◌, map, get_or, Decides, sym, refl, ap, ◌∙◌, subst, inl, inr, arith}
+use Rattle.std.proofs.Common.{◌≡◌, ℕ, suc, true, false, eqb, ◌⊎◌, List, [], ◌∷◌, ◌++◌, map, Decides, sym, refl, ap, ◌∙◌, subst, inl, inr}
 use mathlib.Core.List.Memᴰ
 use mathlib.Core.List.{Memᴰ}
 use Rattle.std.specs.List.{flat_map}
 use Rattle.std.proofs.lemmas.Bool.{cases_Bool}
-use Rattle.sheet.specs.declared.branch.Branch.{Branch}
 use Rattle.sheet.specs.Model.{State, ended, exchange, Sheet}
 use Rattle.protocol.specs.Places.{Place, Has}
 use Rattle.protocol.specs.Actions.{Action, sending, receiving, turn}
 use Rattle.protocol.specs.Sets.{Silent, here, on, Step}
+use Rattle.protocol.proofs.Listed.{places_numbered, has_from_listed, listed_from_has}
 use Rattle.parting.specs.declared.act.Act.{Act}
 use Rattle.parting.specs.declared.edge.Edge.{Edge}
 use Rattle.parting.specs.Masks.{has, In}
 use Rattle.parting.specs.Spread.{Reach, start, along, spread}
-use Rattle.parting.specs.View.{make_place, places_of, places_from, places, send_act, receive_act, acts_at, acts, edge_of, silent_at, silent_edges, action_of}
+use Rattle.parting.specs.View.{make_place, places_from, places, send_act, receive_act, acts_at, acts, edge_of, silent_at, silent_edges, action_of}
 use Rattle.parting.proofs.Spreading.{spread_decides}
 
 -- lists
-pub cons_head : {A : Type 0} {x y : A} {xs ys : List A} → ◌≡◌ {A = List A} (x ∷ xs) (y ∷ ys) → x ≡ y
-cons_head e = cc
-
-pub nil_cons : {A : Type 0} {x : A} {xs : List A} → ◌≡◌ {A = List A} [] (x ∷ xs) → ⊥
-nil_cons e = let z : ◌≡◌ {A = ℕ} 0 1 = cc in omega arith
-
 pub joined_from : {X A : Type 0} (f : X → List A) (xs : List X) (a : A) → Memᴰ a (flat_map f xs) → (x : X) × Memᴰ x xs × Memᴰ a (f x)
 joined_from f [] a i = elim i [ ]
 joined_from {X} {A} f (x ∷ xs) a i = go (λ j. joined_from f xs a j) (Memᴰ.append_cases (f x) i)
@@ -40,56 +34,16 @@ joined_to f (y ∷ xs) x a (Memᴰ.head q) j = Memᴰ.append_left (flat_map f xs
 joined_to f (y ∷ xs) x a (Memᴰ.tail i) j = Memᴰ.append_right (f y) (joined_to f xs x a i j)
 
 -- the places of a sheet, one by one
-record At (s : ℕ) (xs : List State) (p : Place) : Type 0 where
-  index : ℕ
-  state : p.state ≡ s + index
-  branches : List Branch
-  stands : get_or xs index ended ≡ exchange p.sender p.receiver branches
-  among : Memᴰ p.branch branches
-
-mem_of : (s A B : ℕ) (bs : List Branch) (p : Place) → Memᴰ p (map (make_place s A B) bs) → (p.state ≡ s) × (p.sender ≡ A) × (p.receiver ≡ B) × Memᴰ p.branch bs
-mem_of s A B [] p i = elim i [ ]
-mem_of s A B (b ∷ bs) p (Memᴰ.head q) = (ap (λ (z : Place). z.state) q, ap (λ (z : Place). z.sender) q, ap (λ (z : Place). z.receiver) q, Memᴰ.head (ap (λ (z : Place). z.branch) q))
-mem_of s A B (b ∷ bs) p (Memᴰ.tail i) = let r = mem_of s A B bs p i in (r.0, r.1, r.2, Memᴰ.tail r.3)
-
-of_mem : (s A B : ℕ) (bs : List Branch) (b : Branch) → Memᴰ b bs → Memᴰ (make_place s A B b) (map (make_place s A B) bs)
-of_mem s A B (x ∷ bs) b (Memᴰ.head q) = Memᴰ.head (ap (make_place s A B) q)
-of_mem s A B (x ∷ bs) b (Memᴰ.tail i) = Memᴰ.tail (of_mem s A B bs b i)
-of_mem s A B [] b i = elim i [ ]
-
-here_at : (s : ℕ) (x : State) (xs : List State) (p : Place) → Memᴰ p (places_of s x) → At s (x ∷ xs) p
-here_at s ended xs p i = elim i [ ]
-here_at s (exchange A B bs) xs p i =
-    let r = mem_of s A B bs p i in
-    record { index = 0; state = r.0 ∙ (omega arith); branches = bs; stands = rw (r.1, r.2) refl; among = r.3 }
-
-from_at : (s : ℕ) (xs : List State) (p : Place) → Memᴰ p (places_from s xs) → At s xs p
-from_at s [] p i = elim i [ ]
-from_at s (x ∷ xs) p i = go (λ j. from_at (suc s) xs p j) (Memᴰ.append_cases (places_of s x) i)
-  where
-    go : (Memᴰ p (places_from (suc s) xs) → At (suc s) xs p) → Memᴰ p (places_of s x) ⊎ Memᴰ p (places_from (suc s) xs) → At s (x ∷ xs) p
-    go below (inl j) = here_at s x xs p j
-    go below (inr j) =
-        let r = below j in
-        let q : p.state ≡ suc s + r.index = r.state in
-        record { index = suc r.index; state = omega arith; branches = r.branches; stands = r.stands; among = r.among }
-
-to_at : (s : ℕ) (xs : List State) (k A B : ℕ) (bs : List Branch) (b : Branch) → get_or xs k ended ≡ exchange A B bs → Memᴰ b bs → Memᴰ (make_place (s + k) A B b) (places_from s xs)
-to_at s [] k A B bs b q i = absurd (let z : ◌≡◌ {A = ℕ} 0 1 = cc in omega arith)
-to_at s (x ∷ xs) zero A B bs b q i =
-    Memᴰ.append_left (places_from (suc s) xs) (subst (λ (z : State). Memᴰ (make_place (s + 0) A B b) (places_of s z)) (sym q) (subst (λ (n : ℕ). Memᴰ (make_place n A B b) (map (make_place s A B) bs)) (omega arith) (of_mem s A B bs b i)))
-to_at s (x ∷ xs) (suc k) A B bs b q i =
-    Memᴰ.append_right (places_of s x) (subst (λ (n : ℕ). Memᴰ (make_place n A B b) (places_from (suc s) xs)) (omega arith) (to_at (suc s) xs k A B bs b q i))
+same_places : (s : ℕ) (xs : List State) → places_from s xs ≡ places_numbered s xs
+same_places s [] = refl
+same_places s (ended ∷ xs) = same_places (suc s) xs
+same_places s (exchange A B bs ∷ xs) = ap (λ ps. map (make_place s A B) bs ++ ps) (same_places (suc s) xs)
 
 pub has_from : (sh : Sheet) (p : Place) → Memᴰ p (places sh) → Has sh p
-has_from sh p i =
-    let r = from_at 0 sh.states p i in
-    let q : p.state ≡ 0 + r.index = r.state in
-    let e : r.index ≡ p.state = omega arith in
-    record { branches = r.branches; stands = subst (λ (n : ℕ). get_or sh.states n ended ≡ exchange p.sender p.receiver r.branches) e r.stands; among = r.among }
+has_from sh p i = has_from_listed sh p (subst (Memᴰ p) (same_places 0 sh.states) i)
 
 pub has_to : (sh : Sheet) (p : Place) → Has sh p → Memᴰ p (places sh)
-has_to sh p h = subst (λ (n : ℕ). Memᴰ (make_place n p.sender p.receiver p.branch) (places sh)) (omega arith) (to_at 0 sh.states p.state p.sender p.receiver h.branches p.branch h.stands h.among)
+has_to sh p h = subst (Memᴰ p) (sym (same_places 0 sh.states)) (listed_from_has sh p h)
 
 -- which side of a place a role is on
 pub data Side (m : ℕ) (p : Place) : Type 0 where
@@ -113,25 +67,21 @@ side m p = first (cases_Bool (eqb m p.sender))
 abbrev pub ActAt : ℕ → Place → Act → Type 0
 ActAt m p a = (a.state ≡ p.state) × (a.next ≡ p.branch.next) × (turn m p ≡ action_of a ∷ [])
 
-pub single : {A : Type 0} (a b : A) → Memᴰ a (b ∷ []) → a ≡ b
-single a b (Memᴰ.head q) = q
-single a b (Memᴰ.tail i) = elim i [ ]
-
 pub act_at : (m : ℕ) (p : Place) (a : Act) → Memᴰ a (acts_at m p) → ActAt m p a
 act_at m p a i = go (side m p)
   where
     go : Side m p → ActAt m p a
-    go (as_sender t e _) = let q : a ≡ send_act p = single a (send_act p) (subst (Memᴰ a) e i) in rw q (refl, refl, t)
-    go (as_receiver t e _) = let q : a ≡ receive_act p = single a (receive_act p) (subst (Memᴰ a) e i) in rw q (refl, refl, t)
+    go (as_sender t e _) = let q : a ≡ send_act p = Memᴰ.eq_of_singleton (subst (Memᴰ a) e i) in rw q (refl, refl, t)
+    go (as_receiver t e _) = let q : a ≡ receive_act p = Memᴰ.eq_of_singleton (subst (Memᴰ a) e i) in rw q (refl, refl, t)
     go (apart t e _) = let j : Memᴰ a [] = subst (Memᴰ a) e i in elim j [ ]
 
 at_act : (m : ℕ) (p : Place) (x : Action) → turn m p ≡ x ∷ [] → (a : Act) × Memᴰ a (acts_at m p) × (a.state ≡ p.state) × (a.next ≡ p.branch.next) × (action_of a ≡ x)
 at_act m p x u = go (side m p)
   where
     go : Side m p → (a : Act) × Memᴰ a (acts_at m p) × (a.state ≡ p.state) × (a.next ≡ p.branch.next) × (action_of a ≡ x)
-    go (as_sender t e _) = (send_act p, subst (Memᴰ (send_act p)) (sym e) (Memᴰ.head refl), refl, refl, cons_head (sym t ∙ u))
-    go (as_receiver t e _) = (receive_act p, subst (Memᴰ (receive_act p)) (sym e) (Memᴰ.head refl), refl, refl, cons_head (sym t ∙ u))
-    go (apart t e _) = absurd (nil_cons (sym t ∙ u))
+    go (as_sender t e _) = (send_act p, subst (Memᴰ (send_act p)) (sym e) (Memᴰ.head refl), refl, refl, cc)
+    go (as_receiver t e _) = (receive_act p, subst (Memᴰ (receive_act p)) (sym e) (Memᴰ.head refl), refl, refl, cc)
+    go (apart t e _) = absurd cc
 
 module _ (sh : Sheet) (m : ℕ) where
   -- the acts of the view are the role's steps
@@ -152,14 +102,14 @@ module _ (sh : Sheet) (m : ℕ) where
       go : (p : Place) → Has sh p → Memᴰ e (silent_at m p) → Side m p → (q : Place) × Has sh q × (turn m q ≡ []) × (e ≡ edge_of q)
       go p h j (as_sender _ _ z) = let k : Memᴰ e [] = subst (Memᴰ e) z j in elim k [ ]
       go p h j (as_receiver _ _ z) = let k : Memᴰ e [] = subst (Memᴰ e) z j in elim k [ ]
-      go p h j (apart t _ z) = (p, h, t, single e (edge_of p) (subst (Memᴰ e) z j))
+      go p h j (apart t _ z) = (p, h, t, Memᴰ.eq_of_singleton (subst (Memᴰ e) z j))
 
   edge_to : (p : Place) → Has sh p → turn m p ≡ [] → Memᴰ (edge_of p) (silent_edges m (places sh))
   edge_to p h t = go (side m p)
     where
       go : Side m p → Memᴰ (edge_of p) (silent_edges m (places sh))
-      go (as_sender u _ _) = absurd (nil_cons (sym t ∙ u))
-      go (as_receiver u _ _) = absurd (nil_cons (sym t ∙ u))
+      go (as_sender u _ _) = absurd cc
+      go (as_receiver u _ _) = absurd cc
       go (apart _ _ z) = joined_to (silent_at m) (places sh) p (edge_of p) (has_to sh p h) (subst (Memᴰ (edge_of p)) (sym z) (Memᴰ.head refl))
 
   reach_silent : (X : ℕ → Type 0) (s : ℕ) → Reach (silent_edges m (places sh)) X s → Silent sh m X s

@@ -1,5 +1,5 @@
 -- What validity says of the places of a sheet.
-use Rattle.std.proofs.Common.{◌≡◌, ℕ, ◌<◌, ◌≤◌, ◌≢◌, ◌⊎◌, List, [], ◌∷◌, length, get_or, sym, ap, ◌∙◌, subst, inl, inr, arith}
+use Rattle.std.proofs.Common.{◌≡◌, ℕ, ◌<◌, ◌≢◌, ◌⊎◌, ⊎_elim, List, [], ◌∷◌, length, get_or, sym, ap, ◌∙◌, subst, inl, inr, arith}
 use mathlib.Core.List.{Memᴰ}
 use Rattle.std.specs.List.{AllByRecursion}
 use Rattle.std.proofs.lemmas.List.{get_or_past}
@@ -43,12 +43,11 @@ same_exchange sh p q hp hq e =
     (cc, cc, cc)
 
 module _ (sh : Sheet) (valid : Valid sh) where
+  pub state_known : (p : Place) → Has sh p → p.state < length sh.states
+  state_known p h = ⊎_elim (λ l. l) (λ l. let e = get_or_past sh.states p.state ended l in absurd (cc h.stands)) (cases_lt p.state (length sh.states))
+
   pub good_exchange : (p : Place) (h : Has sh p) → GoodExchange sh p.sender p.receiver h.branches
-  good_exchange p h = go (cases_lt p.state (length sh.states))
-    where
-      go : (p.state < length sh.states) ⊎ (length sh.states ≤ p.state) → GoodExchange sh p.sender p.receiver h.branches
-      go (inl l) = subst (GoodState sh) h.stands (All-get_or (GoodState sh) sh.states p.state ended l valid.good_states)
-      go (inr l) = let e = get_or_past sh.states p.state ended l in absurd cc
+  good_exchange p h = subst (GoodState sh) h.stands (All-get_or (GoodState sh) sh.states p.state ended (state_known p h) valid.good_states)
 
   pub good_branch : (p : Place) → Has sh p → GoodBranch sh p.branch
   good_branch p h = all_member (GoodBranch sh) h.branches p.branch (good_exchange p h).good h.among

@@ -3,7 +3,6 @@ use Rattle.std.specs.Bool.{then_some}
 use Rattle.std.proofs.lemmas.List.Elements.{All-filter}
 use Rattle.parting.specs.declared.act.Act.{Act}
 use Rattle.parting.specs.Bounds.{SmallAct, SmallActs}
-use Rattle.parting.specs.Judge.{in_set}
 use Rattle.parting.specs.Lists.{listed}
 use Rattle.parting.specs.Masks.{has}
 use Rattle.parting.proofs.Collecting.{kept, joined_kept, listed_then_some}
