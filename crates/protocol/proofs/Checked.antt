@@ -5,6 +5,7 @@ use mathlib.Core.List.{Memᴰ}
 use lib.ListN.{length-map}
 use Rattle.std.proofs.Math.ListN.{get_or-map}
 use Rattle.std.proofs.lemmas.Bool.{and_parts, and_from, or_cases, or_left, eq-eqb, eqb-true, leb-true, false≢true}
+use Rattle.std.specs.List.{list_all, list_any}
 use Rattle.sheet.specs.Model.{Sheet}
 use Rattle.protocol.specs.Places.{Place, Has}
 use Rattle.protocol.specs.Actions.{Way, sends, receives, Timing, Action, turn}
@@ -12,11 +13,11 @@ use Rattle.protocol.specs.Sets.{Silent, here, on, Acts, Start, Led, Successor}
 use Rattle.protocol.specs.Sound.{Reaches, now, later, Told, Sound}
 use Rattle.protocol.specs.Accepted.{HasPart}
 use Rattle.protocol.proofs.Turns.{Asked, asked, unasked, ask}
-use Rattle.protocol.proofs.Listed.{places, has_from_listed, listed_from_has, every, any, if_so, every_true, any_true, if_true, index_of, member_at}
+use Rattle.protocol.proofs.Listed.{places, has_from_listed, listed_from_has, if_so, every_true, any_true, if_true, index_of, member_at}
 use Rattle.protocol.proofs.Found.{Of, Is, Found, found_part}
 
 abbrev pub inside : List ℕ → ℕ → Bool
-inside X s = any (λ t. eqb t s) X
+inside X s = list_any (λ t. eqb t s) X
 
 abbrev pub In : List ℕ → ℕ → Type 0
 In X s = inside X s ≡ true
@@ -30,24 +31,24 @@ labelled l a = eqb a.label l
 
 -- the next states of that label's branches in the states of X in which the role acts
 abbrev pub led : ℕ → List Place → List ℕ → ℕ → ℕ → Bool
-led m ps X l s = any (λ p. eqb p.branch.next s && (inside X p.state && any (labelled l) (turn m p))) ps
+led m ps X l s = list_any (λ p. eqb p.branch.next s && (inside X p.state && list_any (labelled l) (turn m p))) ps
 
 -- X holds what is silently reached from it
 abbrev pub spreads : ℕ → List Place → List ℕ → Bool
-spreads m ps X = every (λ p. if_so (inside X p.state && idle (turn m p)) (inside X p.branch.next)) ps
+spreads m ps X = list_all (λ p. if_so (inside X p.state && idle (turn m p)) (inside X p.branch.next)) ps
 
 -- each state is in the base, or silently reached from an earlier one
 abbrev pub built : ℕ → List Place → (ℕ → Bool) → List ℕ → List ℕ → Bool
 built m ps base earlier [] = true
 built m ps base earlier (s ∷ rest) =
-    (base s || any (λ p. eqb p.branch.next s && (inside earlier p.state && idle (turn m p))) ps) && built m ps base (s ∷ earlier) rest
+    (base s || list_any (λ p. eqb p.branch.next s && (inside earlier p.state && idle (turn m p))) ps) && built m ps base (s ∷ earlier) rest
 
 abbrev pub starts : ℕ → List Place → List ℕ → Bool
 starts m ps X = inside X 0 && (spreads m ps X && built m ps (λ s. eqb s 0) [] X)
 
 abbrev pub follows : ℕ → List Place → List ℕ → ℕ → List ℕ → Bool
 follows m ps X l Y =
-    every (λ p. if_so (inside X p.state && any (labelled l) (turn m p)) (inside Y p.branch.next)) ps
+    list_all (λ p. if_so (inside X p.state && list_any (labelled l) (turn m p)) (inside Y p.branch.next)) ps
     && (spreads m ps Y && built m ps (led m ps X l) [] Y)
 
 abbrev pub same_way : Way → Way → Bool
@@ -67,23 +68,23 @@ abbrev pub alike : ℕ → List Place → Place → Action → Action → Bool
 alike m ps q a b =
     same_way a.way b.way
     && (eqb a.partner b.partner
-    && (if_so (same_way a.way sends) (any (λ r. eqb r.state q.state && any (λ c. eqb c.label a.label && equal_timing c.timing a.timing) (turn m r)) ps)
+    && (if_so (same_way a.way sends) (list_any (λ r. eqb r.state q.state && list_any (λ c. eqb c.label a.label && equal_timing c.timing a.timing) (turn m r)) ps)
     && if_so (eqb a.label b.label) (equal_timing a.timing b.timing)))
 
 abbrev pub points : ℕ → List Place → List ℕ → Bool
-points m ps X = every (λ p. if_so (inside X p.state) (every (λ q. if_so (inside X q.state) (every (λ a. every (λ b. alike m ps q a b) (turn m q)) (turn m p))) ps)) ps
+points m ps X = list_all (λ p. if_so (inside X p.state) (list_all (λ q. if_so (inside X q.state) (list_all (λ a. list_all (λ b. alike m ps q a b) (turn m q)) (turn m p))) ps)) ps
 
 -- in each state the role acts, or a place leads from it to an earlier one
 abbrev pub leading : ℕ → List Place → List ℕ → List ℕ → Bool
 leading m ps earlier [] = true
 leading m ps earlier (s ∷ rest) =
-    any (λ p. eqb p.state s && (not (idle (turn m p)) || inside earlier p.branch.next)) ps && leading m ps (s ∷ earlier) rest
+    list_any (λ p. eqb p.state s && (not (idle (turn m p)) || inside earlier p.branch.next)) ps && leading m ps (s ∷ earlier) rest
 
 abbrev pub told : ℕ → List Place → List ℕ → List ℕ → Bool
-told m ps reach X = every (λ p. if_so (inside X p.state) (idle (turn m p))) ps || every (inside reach) X
+told m ps reach X = list_all (λ p. if_so (inside X p.state) (idle (turn m p))) ps || list_all (inside reach) X
 
 abbrev pub closes : ℕ → List Place → List (List ℕ) → List ℕ → Bool
-closes m ps sets X = every (λ p. if_so (inside X p.state) (every (λ a. any (follows m ps X a.label) sets) (turn m p))) ps
+closes m ps sets X = list_all (λ p. if_so (inside X p.state) (list_all (λ a. list_any (follows m ps X a.label) sets) (turn m p))) ps
 
 abbrev pub good : ℕ → List Place → List ℕ → List (List ℕ) → List ℕ → Bool
 good m ps reach sets X = points m ps X && (told m ps reach X && closes m ps sets X)
@@ -94,7 +95,7 @@ begins m ps (X ∷ sets) = starts m ps X
 
 -- the sets are the role's sets, they are sound, and at most 32; `reach` lists states from which the role can come to act
 abbrev pub part_of : Sheet → ℕ → List ℕ → List (List ℕ) → Bool
-part_of sh m reach sets = begins m (places sh) sets && (leading m (places sh) [] reach && (leb (length sets) 32 && every (good m (places sh) reach sets) sets))
+part_of sh m reach sets = begins m (places sh) sets && (leading m (places sh) [] reach && (leb (length sets) 32 && list_all (good m (places sh) reach sets) sets))
 
 idle_true : (as' : List Action) → idle as' ≡ true → as' ≡ []
 idle_true [] q = refl
@@ -129,30 +130,30 @@ timing_true t u q =
     e
 
 -- the one action of a place
-asked_any : (m : ℕ) (p : Place) (f : Action → Bool) → any f (turn m p) ≡ true → (a : Action) × (turn m p ≡ a ∷ []) × (f a ≡ true)
+asked_any : (m : ℕ) (p : Place) (f : Action → Bool) → list_any f (turn m p) ≡ true → (a : Action) × (turn m p ≡ a ∷ []) × (f a ≡ true)
 asked_any m p f q = go (ask m p)
   where
     go : Asked m p → (a : Action) × (turn m p ≡ a ∷ []) × (f a ≡ true)
-    go (unasked t) = absurd (false≢true (sym (ap (any f) t) ∙ q))
-    go (asked a t) = (a, t, one (or_cases (f a) false (sym (ap (any f) t) ∙ q)))
+    go (unasked t) = absurd (false≢true (sym (ap (list_any f) t) ∙ q))
+    go (asked a t) = (a, t, one (or_cases (f a) false (sym (ap (list_any f) t) ∙ q)))
       where
         one : (f a ≡ true) ⊎ (false ≡ true) → f a ≡ true
         one (inl r) = r
         one (inr r) = absurd (false≢true r)
 
-any_asked : (m : ℕ) (p : Place) (a : Action) → turn m p ≡ a ∷ [] → (f : Action → Bool) → f a ≡ true → any f (turn m p) ≡ true
-any_asked m p a t f q = ap (any f) t ∙ or_left (f a) false q
+any_asked : (m : ℕ) (p : Place) (a : Action) → turn m p ≡ a ∷ [] → (f : Action → Bool) → f a ≡ true → list_any f (turn m p) ≡ true
+any_asked m p a t f q = ap (list_any f) t ∙ or_left (f a) false q
 
-every_asked : (m : ℕ) (p : Place) (a : Action) → turn m p ≡ a ∷ [] → (f : Action → Bool) → every f (turn m p) ≡ true → f a ≡ true
-every_asked m p a t f q = (and_parts (f a) true (sym (ap (every f) t) ∙ q)).0
+every_asked : (m : ℕ) (p : Place) (a : Action) → turn m p ≡ a ∷ [] → (f : Action → Bool) → list_all f (turn m p) ≡ true → f a ≡ true
+every_asked m p a t f q = (and_parts (f a) true (sym (ap (list_all f) t) ∙ q)).0
 
 module _ (sh : Sheet) (m : ℕ) where
   led_true : (X : List ℕ) (l s : ℕ) → led m (places sh) X l s ≡ true → Led sh m (In X) l s
   led_true X l s q =
-      let r = any_true (λ p. eqb p.branch.next s && (inside X p.state && any (labelled l) (turn m p))) (places sh) q in
+      let r = any_true (λ p. eqb p.branch.next s && (inside X p.state && list_any (labelled l) (turn m p))) (places sh) q in
       let p : Place = r.0 in
-      let x = and_parts (eqb p.branch.next s) (inside X p.state && any (labelled l) (turn m p)) r.2 in
-      let y = and_parts (inside X p.state) (any (labelled l) (turn m p)) x.1 in
+      let x = and_parts (eqb p.branch.next s) (inside X p.state && list_any (labelled l) (turn m p)) r.2 in
+      let y = and_parts (inside X p.state) (list_any (labelled l) (turn m p)) x.1 in
       let z = asked_any m p (labelled l) y.1 in
       record {
         state = p.state;
@@ -176,13 +177,13 @@ module _ (sh : Sheet) (m : ℕ) where
   closure_out base Base is [] earlier before q s i = absurd (false≢true i)
   closure_out base Base is (x ∷ X) earlier before q s i = go (λ f. closure_out base Base is X (x ∷ earlier) f parts.1 s) (or_cases (eqb x s) (inside X s) i)
     where
-      parts : ((base x || any (λ p. eqb p.branch.next x && (inside earlier p.state && idle (turn m p))) (places sh)) ≡ true) × (built m (places sh) base (x ∷ earlier) X ≡ true)
-      parts = and_parts (base x || any (λ p. eqb p.branch.next x && (inside earlier p.state && idle (turn m p))) (places sh)) (built m (places sh) base (x ∷ earlier) X) q
+      parts : ((base x || list_any (λ p. eqb p.branch.next x && (inside earlier p.state && idle (turn m p))) (places sh)) ≡ true) × (built m (places sh) base (x ∷ earlier) X ≡ true)
+      parts = and_parts (base x || list_any (λ p. eqb p.branch.next x && (inside earlier p.state && idle (turn m p))) (places sh)) (built m (places sh) base (x ∷ earlier) X) q
 
       first : Silent sh m Base x
-      first = pick (or_cases (base x) (any (λ p. eqb p.branch.next x && (inside earlier p.state && idle (turn m p))) (places sh)) parts.0)
+      first = pick (or_cases (base x) (list_any (λ p. eqb p.branch.next x && (inside earlier p.state && idle (turn m p))) (places sh)) parts.0)
         where
-          pick : (base x ≡ true) ⊎ (any (λ p. eqb p.branch.next x && (inside earlier p.state && idle (turn m p))) (places sh) ≡ true) → Silent sh m Base x
+          pick : (base x ≡ true) ⊎ (list_any (λ p. eqb p.branch.next x && (inside earlier p.state && idle (turn m p))) (places sh) ≡ true) → Silent sh m Base x
           pick (inl b) = here (is x b)
           pick (inr r) =
               let a = any_true (λ p. eqb p.branch.next x && (inside earlier p.state && idle (turn m p))) (places sh) r in
@@ -212,19 +213,19 @@ module _ (sh : Sheet) (m : ℕ) where
 
   follows_true : (X : List ℕ) (l : ℕ) (Y : List ℕ) → follows m (places sh) X l Y ≡ true → (s : ℕ) → Decides (inside Y s) (Successor sh m (In X) l s)
   follows_true X l Y q s =
-      let a = and_parts (every (λ p. if_so (inside X p.state && any (labelled l) (turn m p)) (inside Y p.branch.next)) (places sh)) (spreads m (places sh) Y && built m (places sh) (led m (places sh) X l) [] Y) q in
+      let a = and_parts (list_all (λ p. if_so (inside X p.state && list_any (labelled l) (turn m p)) (inside Y p.branch.next)) (places sh)) (spreads m (places sh) Y && built m (places sh) (led m (places sh) X l) [] Y) q in
       let b = and_parts (spreads m (places sh) Y) (built m (places sh) (led m (places sh) X l) [] Y) a.1 in (
         closure_out (led m (places sh) X l) (Led sh m (In X) l) (led_true X l) Y [] (λ t i. absurd (false≢true i)) b.1 s,
         closure_in Y (Led sh m (In X) l) b.0 (covered a.0) s,
       )
     where
-      covered : every (λ p. if_so (inside X p.state && any (labelled l) (turn m p)) (inside Y p.branch.next)) (places sh) ≡ true → (t : ℕ) → Led sh m (In X) l t → In Y t
+      covered : list_all (λ p. if_so (inside X p.state && list_any (labelled l) (turn m p)) (inside Y p.branch.next)) (places sh) ≡ true → (t : ℕ) → Led sh m (In X) l t → In Y t
       covered c t x =
           let p : Place = x.step.place in
-          let r = every_true (λ p. if_so (inside X p.state && any (labelled l) (turn m p)) (inside Y p.branch.next)) (places sh) c p (listed_from_has sh p x.step.has) in
+          let r = every_true (λ p. if_so (inside X p.state && list_any (labelled l) (turn m p)) (inside Y p.branch.next)) (places sh) c p (listed_from_has sh p x.step.has) in
           subst (In Y) x.step.leads
-          (if_true (inside X p.state && any (labelled l) (turn m p)) (inside Y p.branch.next) r
-          (and_from (inside X p.state) (any (labelled l) (turn m p)) (subst (In X) (sym x.step.at) x.inside) (any_asked m p x.action x.step.acts (labelled l) (eq-eqb x.action.label l x.labelled))))
+          (if_true (inside X p.state && list_any (labelled l) (turn m p)) (inside Y p.branch.next) r
+          (and_from (inside X p.state) (list_any (labelled l) (turn m p)) (subst (In X) (sym x.step.at) x.inside) (any_asked m p x.action x.step.acts (labelled l) (eq-eqb x.action.label l x.labelled))))
 
   -- what the test of two actions says
   module _ (X : List ℕ) (q : points m (places sh) X ≡ true) (s t : ℕ) (x : In X s) (y : In X t) (a b : Action) (i : Acts sh m s a) (j : Acts sh m t b) where
@@ -232,14 +233,14 @@ module _ (sh : Sheet) (m : ℕ) where
     pair =
         let p : Place = i.1.place in
         let r : Place = j.1.place in
-        let f = every_true (λ p. if_so (inside X p.state) (every (λ q. if_so (inside X q.state) (every (λ a. every (λ b. alike m (places sh) q a b) (turn m q)) (turn m p))) (places sh))) (places sh) q p (listed_from_has sh p i.1.has) in
-        let g = if_true (inside X p.state) (every (λ q. if_so (inside X q.state) (every (λ a. every (λ b. alike m (places sh) q a b) (turn m q)) (turn m p))) (places sh)) f (subst (In X) (sym i.1.at) x) in
-        let h = every_true (λ q. if_so (inside X q.state) (every (λ a. every (λ b. alike m (places sh) q a b) (turn m q)) (turn m p))) (places sh) g r (listed_from_has sh r j.1.has) in
-        let k = if_true (inside X r.state) (every (λ a. every (λ b. alike m (places sh) r a b) (turn m r)) (turn m p)) h (subst (In X) (sym j.1.at) y) in
-        every_asked m r b j.1.acts (λ b. alike m (places sh) r a b) (every_asked m p a i.1.acts (λ a. every (λ b. alike m (places sh) r a b) (turn m r)) k)
+        let f = every_true (λ p. if_so (inside X p.state) (list_all (λ q. if_so (inside X q.state) (list_all (λ a. list_all (λ b. alike m (places sh) q a b) (turn m q)) (turn m p))) (places sh))) (places sh) q p (listed_from_has sh p i.1.has) in
+        let g = if_true (inside X p.state) (list_all (λ q. if_so (inside X q.state) (list_all (λ a. list_all (λ b. alike m (places sh) q a b) (turn m q)) (turn m p))) (places sh)) f (subst (In X) (sym i.1.at) x) in
+        let h = every_true (λ q. if_so (inside X q.state) (list_all (λ a. list_all (λ b. alike m (places sh) q a b) (turn m q)) (turn m p))) (places sh) g r (listed_from_has sh r j.1.has) in
+        let k = if_true (inside X r.state) (list_all (λ a. list_all (λ b. alike m (places sh) r a b) (turn m r)) (turn m p)) h (subst (In X) (sym j.1.at) y) in
+        every_asked m r b j.1.acts (λ b. alike m (places sh) r a b) (every_asked m p a i.1.acts (λ a. list_all (λ b. alike m (places sh) r a b) (turn m r)) k)
 
     abbrev offer_test : Bool
-    offer_test = if_so (same_way a.way sends) (any (λ r. eqb r.state j.1.place.state && any (λ c. eqb c.label a.label && equal_timing c.timing a.timing) (turn m r)) (places sh))
+    offer_test = if_so (same_way a.way sends) (list_any (λ r. eqb r.state j.1.place.state && list_any (λ c. eqb c.label a.label && equal_timing c.timing a.timing) (turn m r)) (places sh))
 
     abbrev clash_test : Bool
     clash_test = if_so (eqb a.label b.label) (equal_timing a.timing b.timing)
@@ -256,11 +257,11 @@ module _ (sh : Sheet) (m : ℕ) where
 
     offers : a.way ≡ sends → (c : Action) × Acts sh m t c × (c.label ≡ a.label) × (c.timing ≡ a.timing)
     offers w =
-        let f : Place → Bool = λ r. eqb r.state j.1.place.state && any (λ c. eqb c.label a.label && equal_timing c.timing a.timing) (turn m r) in
+        let f : Place → Bool = λ r. eqb r.state j.1.place.state && list_any (λ c. eqb c.label a.label && equal_timing c.timing a.timing) (turn m r) in
         let g : Action → Bool = λ c. eqb c.label a.label && equal_timing c.timing a.timing in
-        let u = any_true f (places sh) (if_true (same_way a.way sends) (any f (places sh)) tests.2 (way_from a.way sends w)) in
+        let u = any_true f (places sh) (if_true (same_way a.way sends) (list_any f (places sh)) tests.2 (way_from a.way sends w)) in
         let r : Place = u.0 in
-        let v = and_parts (eqb r.state j.1.place.state) (any g (turn m r)) u.2 in
+        let v = and_parts (eqb r.state j.1.place.state) (list_any g (turn m r)) u.2 in
         let c = asked_any m r g v.1 in
         let z = and_parts (eqb c.0.label a.label) (equal_timing c.0.timing a.timing) c.2 in (
           c.0,
@@ -274,8 +275,8 @@ module _ (sh : Sheet) (m : ℕ) where
   leading_true [] earlier before q s i = absurd (false≢true i)
   leading_true (x ∷ R) earlier before q s i = go (λ f. leading_true R (x ∷ earlier) f parts.1 s) (or_cases (eqb x s) (inside R s) i)
     where
-      parts : (any (λ p. eqb p.state x && (not (idle (turn m p)) || inside earlier p.branch.next)) (places sh) ≡ true) × (leading m (places sh) (x ∷ earlier) R ≡ true)
-      parts = and_parts (any (λ p. eqb p.state x && (not (idle (turn m p)) || inside earlier p.branch.next)) (places sh)) (leading m (places sh) (x ∷ earlier) R) q
+      parts : (list_any (λ p. eqb p.state x && (not (idle (turn m p)) || inside earlier p.branch.next)) (places sh) ≡ true) × (leading m (places sh) (x ∷ earlier) R ≡ true)
+      parts = and_parts (list_any (λ p. eqb p.state x && (not (idle (turn m p)) || inside earlier p.branch.next)) (places sh)) (leading m (places sh) (x ∷ earlier) R) q
 
       first : Reaches sh m x
       first =
@@ -305,9 +306,9 @@ module _ (sh : Sheet) (m : ℕ) where
 
   module _ (reach : List ℕ) (leads : leading m (places sh) [] reach ≡ true) where
     told_true : (X : List ℕ) → told m (places sh) reach X ≡ true → (s : ℕ) → In X s → (a : Action) → Acts sh m s a → Told sh m (In X)
-    told_true X q s x a i t y = go (or_cases (every (λ p. if_so (inside X p.state) (idle (turn m p))) (places sh)) (every (inside reach) X) q)
+    told_true X q s x a i t y = go (or_cases (list_all (λ p. if_so (inside X p.state) (idle (turn m p))) (places sh)) (list_all (inside reach) X) q)
       where
-        go : (every (λ p. if_so (inside X p.state) (idle (turn m p))) (places sh) ≡ true) ⊎ (every (inside reach) X ≡ true) → Reaches sh m t
+        go : (list_all (λ p. if_so (inside X p.state) (idle (turn m p))) (places sh) ≡ true) ⊎ (list_all (inside reach) X ≡ true) → Reaches sh m t
         go (inl r) =
             let p : Place = i.1.place in
             let e = every_true (λ p. if_so (inside X p.state) (idle (turn m p))) (places sh) r p (listed_from_has sh p i.1.has) in
@@ -334,10 +335,10 @@ module _ (sh : Sheet) (m : ℕ) where
         let u = and_parts (points m (places sh) X) (told m (places sh) reach X && closes m (places sh) sets X) q in
         let v = and_parts (told m (places sh) reach X) (closes m (places sh) sets X) u.1 in
         let p : Place = x.step.place in
-        let e = every_true (λ p. if_so (inside X p.state) (every (λ a. any (follows m (places sh) X a.label) sets) (turn m p))) (places sh) v.1 p (listed_from_has sh p x.step.has) in
-        let f = if_true (inside X p.state) (every (λ a. any (follows m (places sh) X a.label) sets) (turn m p)) e (subst (In X) (sym x.step.at) x.inside) in
-        let g : any (follows m (places sh) X x.action.label) sets ≡ true = every_asked m p x.action x.step.acts (λ a. any (follows m (places sh) X a.label) sets) f in
-        let h : any (follows m (places sh) X l) sets ≡ true = subst (λ (k : ℕ). any (follows m (places sh) X k) sets ≡ true) x.labelled g in
+        let e = every_true (λ p. if_so (inside X p.state) (list_all (λ a. list_any (follows m (places sh) X a.label) sets) (turn m p))) (places sh) v.1 p (listed_from_has sh p x.step.has) in
+        let f = if_true (inside X p.state) (list_all (λ a. list_any (follows m (places sh) X a.label) sets) (turn m p)) e (subst (In X) (sym x.step.at) x.inside) in
+        let g : list_any (follows m (places sh) X x.action.label) sets ≡ true = every_asked m p x.action x.step.acts (λ a. list_any (follows m (places sh) X a.label) sets) f in
+        let h : list_any (follows m (places sh) X l) sets ≡ true = subst (λ (k : ℕ). list_any (follows m (places sh) X k) sets ≡ true) x.labelled g in
         let r = any_true (follows m (places sh) X l) sets h in
         (r.0, r.1, follows_true X l r.0 r.2)
 
@@ -346,14 +347,14 @@ part_true sh m reach [] q = absurd (false≢true q)
 part_true sh m reach (X ∷ sets) q =
     found_part sh m (map inside (X ∷ sets)) found (rw (length-map (X ∷ sets) inside) (leb-true (length (X ∷ sets)) 32 c.0))
   where
-    a : (starts m (places sh) X ≡ true) × ((leading m (places sh) [] reach && (leb (length (X ∷ sets)) 32 && every (good m (places sh) reach (X ∷ sets)) (X ∷ sets))) ≡ true)
-    a = and_parts (starts m (places sh) X) (leading m (places sh) [] reach && (leb (length (X ∷ sets)) 32 && every (good m (places sh) reach (X ∷ sets)) (X ∷ sets))) q
+    a : (starts m (places sh) X ≡ true) × ((leading m (places sh) [] reach && (leb (length (X ∷ sets)) 32 && list_all (good m (places sh) reach (X ∷ sets)) (X ∷ sets))) ≡ true)
+    a = and_parts (starts m (places sh) X) (leading m (places sh) [] reach && (leb (length (X ∷ sets)) 32 && list_all (good m (places sh) reach (X ∷ sets)) (X ∷ sets))) q
 
-    b : (leading m (places sh) [] reach ≡ true) × ((leb (length (X ∷ sets)) 32 && every (good m (places sh) reach (X ∷ sets)) (X ∷ sets)) ≡ true)
-    b = and_parts (leading m (places sh) [] reach) (leb (length (X ∷ sets)) 32 && every (good m (places sh) reach (X ∷ sets)) (X ∷ sets)) a.1
+    b : (leading m (places sh) [] reach ≡ true) × ((leb (length (X ∷ sets)) 32 && list_all (good m (places sh) reach (X ∷ sets)) (X ∷ sets)) ≡ true)
+    b = and_parts (leading m (places sh) [] reach) (leb (length (X ∷ sets)) 32 && list_all (good m (places sh) reach (X ∷ sets)) (X ∷ sets)) a.1
 
-    c : (leb (length (X ∷ sets)) 32 ≡ true) × (every (good m (places sh) reach (X ∷ sets)) (X ∷ sets) ≡ true)
-    c = and_parts (leb (length (X ∷ sets)) 32) (every (good m (places sh) reach (X ∷ sets)) (X ∷ sets)) b.1
+    c : (leb (length (X ∷ sets)) 32 ≡ true) × (list_all (good m (places sh) reach (X ∷ sets)) (X ∷ sets) ≡ true)
+    c = and_parts (leb (length (X ∷ sets)) 32) (list_all (good m (places sh) reach (X ∷ sets)) (X ∷ sets)) b.1
 
     within : (i : ℕ) → i < length (map inside (X ∷ sets)) → i < length (X ∷ sets)
     within i l = let n = length-map (X ∷ sets) inside in omega arith

@@ -1,8 +1,11 @@
 -- The places of a sheet one by one, and tests over lists.
-use Rattle.std.proofs.Common.{◌≡◌, ℕ, zero, suc, ◌+◌, ◌<◌, Bool, true, false, not, ◌&&◌, ◌||◌, ◌⊎◌, List, [], ◌∷◌, ◌++◌, map, length, get_or, sym, refl, ap, ◌∙◌, subst, inl, inr, arith}
+use Rattle.std.proofs.Common.{◌≡◌, ℕ, zero, suc, ◌+◌, ◌<◌, Bool, true, false, not, ◌||◌, ◌⊎◌, List, [], ◌∷◌, ◌++◌, map, length, get_or, sym, refl, ap, ◌∙◌, subst, inl, inr, arith}
 use mathlib.Core.List.Memᴰ
 use mathlib.Core.List.{Memᴰ}
-use Rattle.std.proofs.lemmas.Bool.{and_parts, or_cases, or_left, or_right, false≢true}
+use Rattle.std.proofs.lemmas.Bool.{false≢true}
+use Rattle.std.specs.List.{list_all, list_any}
+use Rattle.std.proofs.lemmas.List.Folds.{Any-from_list_any}
+use Rattle.std.proofs.lemmas.List.Sums.{AllPass-from_list_all}
 use Rattle.sheet.specs.declared.branch.Branch.{Branch}
 use Rattle.sheet.specs.Model.{Sheet, State, ended, exchange}
 use Rattle.protocol.specs.Places.{Place, Has}
@@ -63,40 +66,7 @@ has_from_listed sh p i =
 pub listed_from_has : (sh : Sheet) (p : Place) → Has sh p → Memᴰ p (places sh)
 listed_from_has sh p h = subst (λ (n : ℕ). Memᴰ (place_at n p.sender p.receiver p.branch) (places sh)) (omega arith) (to_at 0 sh.states p.state p.sender p.receiver h.branches p.branch h.stands h.among)
 
--- tests over lists
-abbrev pub every : {A : Type 0} → (A → Bool) → List A → Bool
-every f [] = true
-every f (x ∷ xs) = f x && every f xs
-
-abbrev pub any : {A : Type 0} → (A → Bool) → List A → Bool
-any f [] = false
-any f (x ∷ xs) = f x || any f xs
-
-abbrev pub if_so : Bool → Bool → Bool
-if_so a b = not a || b
-
-pub every_true : {A : Type 0} (f : A → Bool) (xs : List A) → every f xs ≡ true → (x : A) → Memᴰ x xs → f x ≡ true
-every_true f [] q x i = elim i [ ]
-every_true f (y ∷ xs) q x (Memᴰ.head e) = rw e (and_parts (f y) (every f xs) q).0
-every_true f (y ∷ xs) q x (Memᴰ.tail i) = every_true f xs (and_parts (f y) (every f xs) q).1 x i
-
-pub any_true : {A : Type 0} (f : A → Bool) (xs : List A) → any f xs ≡ true → (x : A) × Memᴰ x xs × (f x ≡ true)
-any_true f [] q = absurd (false≢true q)
-any_true {A} f (y ∷ xs) q = go (λ r. any_true f xs r) (or_cases (f y) (any f xs) q)
-  where
-    go : (any f xs ≡ true → (x : A) × Memᴰ x xs × (f x ≡ true)) → (f y ≡ true) ⊎ (any f xs ≡ true) → (x : A) × Memᴰ x (y ∷ xs) × (f x ≡ true)
-    go rec (inl r) = (y, Memᴰ.head refl, r)
-    go rec (inr r) = let z = rec r in (z.0, Memᴰ.tail z.1, z.2)
-
-pub any_from : {A : Type 0} (f : A → Bool) (xs : List A) (x : A) → Memᴰ x xs → f x ≡ true → any f xs ≡ true
-any_from f [] x i q = elim i [ ]
-any_from f (y ∷ xs) x (Memᴰ.head e) q = or_left (f y) (any f xs) (rw (← e) q)
-any_from f (y ∷ xs) x (Memᴰ.tail i) q = or_right (f y) (any f xs) (any_from f xs x i q)
-
-pub if_true : (a b : Bool) → if_so a b ≡ true → a ≡ true → b ≡ true
-if_true true b q r = q
-if_true false b q r = absurd (false≢true r)
-
+-- members and their places
 pub index_of : {A : Type 0} (xs : List A) (d x : A) → Memᴰ x xs → (i : ℕ) × (i < length xs) × (get_or xs i d ≡ x)
 index_of [] d x i = elim i [ ]
 index_of (y ∷ xs) d x (Memᴰ.head e) = (zero, omega arith, sym e)
@@ -106,3 +76,19 @@ pub member_at : {A : Type 0} (xs : List A) (d : A) (i : ℕ) → i < length xs �
 member_at [] d i l = absurd (omega arith)
 member_at (x ∷ xs) d zero l = Memᴰ.head refl
 member_at (x ∷ xs) d (suc i) l = Memᴰ.tail (member_at xs d i (omega arith))
+
+-- tests over lists
+abbrev pub if_so : Bool → Bool → Bool
+if_so a b = not a || b
+
+pub if_true : (a b : Bool) → if_so a b ≡ true → a ≡ true → b ≡ true
+if_true true b q r = q
+if_true false b q r = absurd (false≢true r)
+
+pub every_true : {A : Type 0} (f : A → Bool) (xs : List A) → list_all f xs ≡ true → (x : A) → Memᴰ x xs → f x ≡ true
+every_true f xs q x i = let k = index_of xs x x i in ap f (sym k.2) ∙ AllPass-from_list_all f xs q k.0 x k.1
+
+pub any_true : {A : Type 0} (f : A → Bool) (xs : List A) → list_any f xs ≡ true → (x : A) × Memᴰ x xs × (f x ≡ true)
+any_true f xs q =
+    let h = Any-from_list_any f xs q in
+    (get_or xs h.0 h.1, member_at xs h.1 h.0 h.2, ap f h.3 ∙ h.4)

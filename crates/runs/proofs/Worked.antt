@@ -1,7 +1,9 @@
 -- The examples, by computation.
-use Rattle.std.proofs.Common.{◌≡◌, ℕ, zero, suc, ◌<◌, ◌≤◌, true, ltb, ◌⊎◌, List, [], ◌∷◌, ◌++◌, length, Some, None, sym, refl, ap, ◌∙◌, subst, inl, inr, arith}
+use Rattle.std.proofs.Common.{◌≡◌, ℕ, zero, suc, ◌<◌, ◌≤◌, true, ltb, ◌⊎◌, List, [], ◌∷◌, ◌++◌, length, get_or, Some, None, sym, refl, ap, ◌∙◌, subst, inl, inr, arith}
 use mathlib.Core.List.{Memᴰ}
-use Rattle.std.specs.List.{AllByRecursion}
+use Rattle.std.specs.List.{AllByRecursion, list_all}
+use Rattle.std.proofs.lemmas.List.Elements.{recursion_from_All}
+use Rattle.std.proofs.lemmas.List.Sums.{AllPass-from_list_all}
 use Rattle.sheet.specs.Model.{Sheet}
 use Rattle.sheet.specs.Encode.{encode}
 use Rattle.sheet.specs.Decode.{table}
@@ -16,8 +18,8 @@ use Rattle.protocol.specs.Actions.{Way, sends, receives, Action, sending, receiv
 use Rattle.protocol.specs.Paths.{PathFrom, share}
 use Rattle.protocol.specs.Sets.{here, on, Acts, Start, After, Followed}
 use Rattle.protocol.specs.Accepted.{HasPart, Accepted}
-use Rattle.std.proofs.lemmas.Bool.{and_parts, ltb-true}
-use Rattle.protocol.proofs.Listed.{places, every, listed_from_has, place_at}
+use Rattle.std.proofs.lemmas.Bool.{ltb-true}
+use Rattle.protocol.proofs.Listed.{places, listed_from_has, place_at}
 use Rattle.protocol.proofs.Checked.{part_true}
 use Rattle.events.specs.declared.event.Event.{Event}
 use Rattle.runs.specs.Events.{direction_of, mine, own, along, sent, taken}
@@ -34,11 +36,10 @@ use Rattle.runs.proofs.Growth.{Fit, in_order_step, channels_now, channels_push, 
 use Rattle.runs.proofs.Ending.{end_reaches}
 
 -- a sheet whose encoding has no fault is valid
-bytes_by_test : (xs : List ℕ) → every (λ b. ltb b 256) xs ≡ true → Bytes xs
-bytes_by_test [] q = tt
-bytes_by_test (x ∷ xs) q = let r = and_parts (ltb x 256) (every (λ b. ltb b 256) xs) q in (ltb-true x 256 r.0, bytes_by_test xs r.1)
+bytes_by_test : (xs : List ℕ) → list_all (λ b. ltb b 256) xs ≡ true → Bytes xs
+bytes_by_test xs q = recursion_from_All (λ b. b < 256) xs (λ k d l. ltb-true (get_or xs k d) 256 (AllPass-from_list_all (λ b. ltb b 256) xs q k d l))
 
-valid_by_test : (sh : Sheet) → every (λ b. ltb b 256) (encode sh) ≡ true → fault (encode sh) ≡ None → Valid sh
+valid_by_test : (sh : Sheet) → list_all (λ b. ltb b 256) (encode sh) ≡ true → fault (encode sh) ≡ None → Valid sh
 valid_by_test sh ok clean = subst Valid (model_encode sh) (sound (encode sh) (bytes_by_test (encode sh) ok) clean).valid
 
 oven_valid : Valid oven
@@ -99,7 +100,7 @@ short_path = heat_place ∷ []
 short_leads : PathFrom oven 0 short_path
 short_leads = (record { branches = branch 0 1 255 0 3 ∷ []; stands = refl; among = Memᴰ.head refl }, refl, tt)
 
--- what every role follows is the third and the fourth point
+-- what list_all role follows is the third and the fourth point
 on_some_path : (sh : Sheet) (es : List Event) → AllByRecursion (λ e. e.role < length sh.roles) es → (path : List Place) → PathFrom sh 0 path → (o : ℕ) → ((m : ℕ) → Follows windows o (own m es) (share m path)) → TimelyOnSomePath sh windows o es
 on_some_path sh es known path leads o f = record {
   third = record { known = known; path = path; leads = leads; shares = λ m. beginning windows o (own m es) (share m path) (f m) };
