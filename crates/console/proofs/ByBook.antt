@@ -1,5 +1,5 @@
 -- Books with the same sets prescribe the same answers.
-use Rattle.std.proofs.Common.{ℕ, List, [], ◌∷◌, Some, None, Option, inl, inr}
+use Rattle.std.proofs.Common.{ℕ, List, [], ◌∷◌, Some, None, Ok, Err, Option, inl, inr}
 use Rattle.books.specs.Sets.{Same}
 use Rattle.sheet.specs.Model.{Sheet}
 use Rattle.protocol.specs.Actions.{Timing}
@@ -7,10 +7,9 @@ use Rattle.events.specs.declared.event.Event.{Event}
 use Rattle.runs.specs.Run.{Book, Admits, Run}
 use Rattle.runs.specs.Laws.{Could}
 use Rattle.runs.proofs.Foresee.{least_by}
-use Rattle.session.specs.Calls.{Right, after, Prescribed}
+use Rattle.session.specs.Calls.{Answer, Right, after, Prescribed}
 use Rattle.session.specs.Outcomes.{InRow, Refused}
-use Rattle.events.specs.declared.call.Answer.{Answer}
-use Rattle.events.specs.declared.call.Answer.TheVariants.{Open, Passed, Next, Stopped}
+use Rattle.events.specs.declared.call.Reply.TheVariants.{Passed, Next}
 use Rattle.events.specs.declared.call.Call.{Call}
 use Rattle.events.specs.declared.call.Call.TheVariants.{Judge, Forecast}
 use Rattle.events.specs.declared.call.Entry.{Entry}
@@ -65,17 +64,17 @@ module _ (P Q : Book) (same : (row v : ℕ) → Same (P row v) (Q row v)) (sh : 
   refused_by es e (Depth d) r = r
 
   right_by : (es : List Event) (call : Call) (answer : Answer) → Right sh P opening depth es call answer → Right sh Q opening depth es call answer
-  right_by es (Judge e) (Passed n) p = record { run = run_wider P Q to sh opening depth _ p.run; answers = p.answers }
-  right_by es (Judge e) (Stopped fault) s = record { no_run = λ r. s.no_run (run_wider Q P back sh opening depth _ r); refused = refused_by es e fault s.refused }
-  right_by es (Judge e) (Next tick) p = p
-  right_by es (Judge e) Open p = p
-  right_by es (Forecast role) (Next tick) f = record {
+  right_by es (Judge e) (Some (Ok (Passed n))) p = record { run = run_wider P Q to sh opening depth _ p.run; answers = p.answers }
+  right_by es (Judge e) (Some (Err fault)) s = record { no_run = λ r. s.no_run (run_wider Q P back sh opening depth _ r); refused = refused_by es e fault s.refused }
+  right_by es (Judge e) (Some (Ok (Next tick))) p = p
+  right_by es (Judge e) None p = p
+  right_by es (Forecast role) (Some (Ok (Next tick))) f = record {
     known = f.known;
     least = least_by _ _ _ _ (λ u _. could_wider P Q to sh opening depth es role u) (λ u _. could_wider Q P back sh opening depth es role u) tick f.least;
   }
-  right_by es (Forecast role) (Stopped fault) p = p
-  right_by es (Forecast role) (Passed n) p = p
-  right_by es (Forecast role) Open p = p
+  right_by es (Forecast role) (Some (Err fault)) p = p
+  right_by es (Forecast role) (Some (Ok (Passed n))) p = p
+  right_by es (Forecast role) None p = p
 
   pub prescribed_by : (es : List Event) (log : List Entry) → Prescribed sh P opening depth es log → Prescribed sh Q opening depth es log
   prescribed_by es [] p = p

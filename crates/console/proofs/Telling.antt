@@ -18,19 +18,18 @@ use Rattle.input.specs.Split.{Splits}
 use Rattle.input.specs.declared.script.Script.{Script}
 use Rattle.session.specs.Calls.{call_of, calls, passed, Prescribed}
 use Rattle.session.specs.Outcomes.{Closes}
-use Rattle.events.specs.declared.closing.Closing.{Closing}
+use Rattle.events.specs.declared.closing.Early.{Early}
 use Rattle.console.specs.Faults.{stop_for, watch_fault}
 use Rattle.console.specs.Told.{Watched, PartsTold, Told}
 use Rattle.console.specs.Transcript.{transcript}
 use Rattle.console.specs.declared.fault.ConsoleFault.{ConsoleFault}
 use Rattle.console.specs.declared.fault.ConsoleFault.TheVariants.{Cut}
-use Rattle.events.specs.declared.call.Answer.TheVariants.{Open}
 use Rattle.events.specs.declared.call.Call.{Call}
 use Rattle.events.specs.declared.call.Call.TheVariants.{Judge}
 use Rattle.events.specs.declared.call.Entry.{Entry}
 
 abbrev pub fresh : Event → Entry
-fresh e = record { call = Judge e; answer = Open }
+fresh e = record { call = Judge e; answer = None }
 
 pub log_more : (log log' : List Entry) (bytes rest : List ℕ) (e : Event) (all : List Call) → log' ≡ log ++ (fresh e ∷ []) → event_bytes e ++ rest ≡ bytes → calls log ++ map Judge (events_in bytes) ≡ all
     → calls log' ++ map Judge (events_in rest) ≡ all
@@ -65,7 +64,7 @@ module _ (refusal : List ℕ → Option BookFault) (rows_in : List ℕ → ℕ) 
   pub parts_stopped : (fault : ConsoleFault) → Some fault ≡ watch_fault refusal rows_in sheet book → text ≡ line_of_stop (stop_for fault) → PartsTold refusal rows_in allows sheet book tick events text
   parts_stopped fault e is = subst (λ o. MatchOption o (Watched sheet (allows book) tick events text) (λ f. text ≡ line_of_stop (stop_for f))) e is
 
-  pub parts_watched : (counts : Counts) (log shown : List Entry) (closing : Closing) → None ≡ watch_fault refusal rows_in sheet book → Encodes sheet (model sheet) → CanBeParted (model sheet)
+  pub parts_watched : (counts : Counts) (log shown : List Entry) (closing : Result (Unit {0}) Early) → None ≡ watch_fault refusal rows_in sheet book → Encodes sheet (model sheet) → CanBeParted (model sheet)
       → counts ≡ counts_of (model sheet) → Prescribed (model sheet) (allows book) tick 8 [] log → Closes (model sheet) (passed [] log) closing → calls log ≡ map Judge events → shown ≡ log
       → text ≡ transcript counts shown closing → PartsTold refusal rows_in allows sheet book tick events text
   parts_watched counts log shown closing e encodes parted counted prescribed closes asked same is =

@@ -1,5 +1,5 @@
 -- Meaning: what is printed for an input, by runs of the sheet.
-use Rattle.std.specs.Prelude.{◌≡◌, ℕ, List, [], map, Option, MatchOption}
+use Rattle.std.specs.Prelude.{◌≡◌, ℕ, List, [], map, Option, MatchOption, Result}
 use Rattle.text.specs.StopLine.{line_of_stop}
 use Rattle.books.specs.declared.fault.BookFault.{BookFault}
 use Rattle.sheet.specs.Law.{Encodes}
@@ -13,7 +13,7 @@ use Rattle.session.specs.Calls.{calls, passed, Prescribed}
 use Rattle.session.specs.Outcomes.{Closes}
 use Rattle.events.specs.declared.call.Call.TheVariants.{Judge}
 use Rattle.events.specs.declared.call.Entry.{Entry}
-use Rattle.events.specs.declared.closing.Closing.{Closing}
+use Rattle.events.specs.declared.closing.Early.{Early}
 use Rattle.console.specs.declared.fault.ConsoleFault.TheVariants.{Cut}
 use Rattle.console.specs.Faults.{stop_for, watch_fault}
 use Rattle.console.specs.Transcript.{transcript}
@@ -25,7 +25,7 @@ pub record Watched (bytes : List ℕ) (book : Book) (tick : ℕ) (events : List 
   pub encodes : Encodes bytes sheet
   pub parted : CanBeParted sheet
   pub log : List Entry
-  pub closing : Closing
+  pub closing : Result (Unit {0}) Early
   pub asked : calls log ≡ map Judge events
   pub prescribed : Prescribed sheet book tick 8 [] log
   pub closes : Closes sheet (passed [] log) closing

@@ -5,7 +5,7 @@ ghost use Rattle.input.specs.Events.{events_in};
 ghost use Rattle.session.specs.Calls.{calls};
 ghost use Rattle.events.specs.declared.call.Call.TheVariants.{Judge};
 
-use events::call::{Answer, Call, Entry};
+use events::call::{Call, Entry};
 use input::event::decode;
 use std::alloc::{AllocError, Global};
 
@@ -18,7 +18,7 @@ pub(crate) fn log_of(heap: Global, events: &[u8]) -> Result<Vec<Entry>, AllocErr
     while let Some((event, after)) = decode(rest) {
         log.push(Entry {
             call: Call::Judge { event },
-            answer: Answer::Open,
+            answer: None,
         })?;
         rest = after;
     }

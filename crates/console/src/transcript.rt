@@ -1,10 +1,11 @@
 //! The lines of a transcript.
 
+ghost use Rattle.std.specs.Prelude.{Some, Err};
 ghost use Rattle.console.specs.Transcript.{sheet_line, answer_line, entry_lines, early_line, end_line, transcript};
 ghost use Rattle.text.specs.Growing.{Adds};
 
-use events::call::{Answer, Entry};
-use events::closing::Closing;
+use events::call::{Entry, Reply};
+use events::closing::Early;
 use events::fault::SessionFault;
 use sheet::counts::Counts;
 use std::alloc::AllocError;
@@ -17,7 +18,7 @@ pub(crate) fn put_transcript(
     text: &mut Text,
     counts: Counts,
     log: &[Entry],
-    closing: Closing,
+    closing: Result<(), Early>,
 ) -> Result<(), AllocError>
     ensures { Adds text.old text.new result (transcript counts log.now closing) }
 {
@@ -48,19 +49,22 @@ fn put_entries(text: &mut Text, log: &[Entry]) -> Result<(), AllocError>
 }
 
 // Only answers to events are told, and each of them is a pass or a stop.
-fn put_answer(text: &mut Text, number: usize, answer: Answer) -> Result<(), AllocError>
+fn put_answer(
+    text: &mut Text,
+    number: usize,
+    answer: Option<Result<Reply, SessionFault>>,
+) -> Result<(), AllocError>
     ensures { Adds text.old text.new result (answer_line number answer) }
 {
     match answer {
-        Answer::Passed { answer } => writeln!(text, "{number} PASS {answer}"),
-        Answer::Stopped { fault } => put_stopped(text, number, fault),
-        Answer::Open => Ok(()),
-        Answer::Next { tick: _ } => Ok(()),
+        Some(Ok(Reply::Passed { answer })) => writeln!(text, "{number} PASS {answer}"),
+        Some(Err(fault)) => put_stopped(text, number, fault),
+        Some(Ok(Reply::Next { .. })) | None => Ok(()),
     }
 }
 
 fn put_stopped(text: &mut Text, number: usize, fault: SessionFault) -> Result<(), AllocError>
-    ensures { Adds text.old text.new result (answer_line number (Answer.Stopped fault)) }
+    ensures { Adds text.old text.new result (answer_line number (Some (Err fault))) }
 {
     let stop = Stop::from(fault).number;
     write!(text, "{number} STOP {stop} ")?;
@@ -68,12 +72,12 @@ fn put_stopped(text: &mut Text, number: usize, fault: SessionFault) -> Result<()
     writeln!(text)
 }
 
-fn put_end(text: &mut Text, closing: Closing) -> Result<(), AllocError>
+fn put_end(text: &mut Text, closing: Result<(), Early>) -> Result<(), AllocError>
     ensures { Adds text.old text.new result (end_line closing) }
 {
-    match closing.stop() {
-        None => writeln!(text, "END 0"),
-        Some(stop) => put_early(text, stop),
+    match closing {
+        Ok(()) => writeln!(text, "END 0"),
+        Err(early) => put_early(text, Stop::from(early)),
     }
 }
 

@@ -15,7 +15,7 @@ ghost use Rattle.console.specs.Faults.{accept_fault, watch_fault};
 use crate::fault::ConsoleFault;
 use crate::read_book::ReadBook;
 use events::call::Entry;
-use events::closing::Closing;
+use events::closing::Early;
 use input::script::Script;
 use parting::accepted::Accepted;
 use parting::part::part;
@@ -43,7 +43,7 @@ fn accept<B: ReadBook + Drop>(sheet: &[u8], book: &[u8]) -> Result<(Accepted, B)
 #[derive(Clone, Copy)]
 pub(crate) struct Seen {
     pub(crate) counts: Counts,
-    pub(crate) closing: Closing,
+    pub(crate) closing: Result<(), Early>,
 }
 
 /// Puts each call of the log to a session on a script's sheet and book, and closes it; or the first fault that keeps it from being opened.

@@ -10,22 +10,18 @@ pub enum Call {
     Forecast { role: u8 },
 }
 
-/// What is answered.
+/// What is answered to a call that is not stopped.
 #[derive(Clone, Copy, PartialEq, Eq, Debug)]
-pub enum Answer {
-    /// Not asked yet.
-    Open,
+pub enum Reply {
     /// The event passed: a sending's channel now holds so many messages, a taking's message was under way for so many ticks.
     Passed { answer: u32 },
     /// The role's next tick, or none.
     Next { tick: Option<u32> },
-    /// The event or the forecast was stopped.
-    Stopped { fault: SessionFault },
 }
 
-/// A call with its answer.
+/// A call with its answer: none where it is not asked yet.
 #[derive(Clone, Copy, PartialEq, Eq, Debug)]
 pub struct Entry {
     pub call: Call,
-    pub answer: Answer,
+    pub answer: Option<Result<Reply, SessionFault>>,
 }

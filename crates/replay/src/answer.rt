@@ -2,8 +2,8 @@
 
 ghost use Rattle.std.specs.Prelude.{◌≡◌, length};
 
-use events::call::Answer;
-use events::closing::Closing;
+use events::call::Reply;
+use events::closing::Early;
 use events::fault::SessionFault;
 use sheet::counts::Counts;
 use stops::stop::{Layer, Stop};
@@ -55,16 +55,14 @@ pub(crate) fn opened_bytes(counts: Counts) -> [u8; 5]
 }
 
 /// The bytes of an answer to a call.
-pub(crate) fn answer_bytes(answer: Answer) -> [u8; 8]
+pub(crate) fn answer_bytes(answer: Result<Reply, SessionFault>) -> [u8; 8]
     ensures { length result ≡ 8 }
 {
     match answer {
-        Answer::Passed { answer } => plain(0, answer),
-        Answer::Stopped { fault } => stopped(fault),
-        Answer::Next { tick: Some(tick) } => plain(2, tick),
-        Answer::Next { tick: None } => plain(3, 0),
-        // A session answers every call, so this is never written.
-        Answer::Open => plain(255, 0),
+        Ok(Reply::Passed { answer }) => plain(0, answer),
+        Ok(Reply::Next { tick: Some(tick) }) => plain(2, tick),
+        Ok(Reply::Next { tick: None }) => plain(3, 0),
+        Err(fault) => stopped(fault),
     }
 }
 
@@ -97,11 +95,14 @@ fn place(place: usize) -> u8 {
 }
 
 /// The bytes of what closing answers.
-pub(crate) fn closing_bytes(closing: Closing) -> [u8; 8]
+pub(crate) fn closing_bytes(closing: Result<(), Early>) -> [u8; 8]
     ensures { length result ≡ 8 }
 {
-    match closing.stop() {
-        None => [4, 0, 0, 0, 0, 0, 0, 0],
-        Some(stop) => [4, stop.number, place(stop.first), 0, 0, 0, 0, 0],
+    match closing {
+        Ok(()) => [4, 0, 0, 0, 0, 0, 0, 0],
+        Err(early) => {
+            let stop = Stop::from(early);
+            [4, stop.number, place(stop.first), 0, 0, 0, 0, 0]
+        }
     }
 }

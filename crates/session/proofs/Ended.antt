@@ -1,5 +1,5 @@
 -- Whether a set's kind is finished, read off the tables, is whether the role is finished after the events.
-use Rattle.std.proofs.Common.{◌≡◌, ℕ, ◌<◌, true, false, cond, ◌&&◌, ltb, List, length, Some, None, sym, ap, ◌∙◌, arith}
+use Rattle.std.proofs.Common.{◌≡◌, ℕ, ◌<◌, true, false, cond, ◌&&◌, ltb, List, length, Some, None, Ok, Err, Result, sym, ap, ◌∙◌, arith}
 use Rattle.std.proofs.lemmas.Bool.Decides.{nat_tests}
 use Rattle.sheet.specs.Model.{Sheet}
 use Rattle.parting.specs.declared.accepted.Accepted.{Accepted}
@@ -13,8 +13,7 @@ use Rattle.runs.specs.Monitor.{InSet}
 use Rattle.runs.specs.Stands.{SetAfter}
 use Rattle.runs.specs.Closing.{Finished}
 use Rattle.runs.proofs.Ending.{closing}
-use Rattle.events.specs.declared.closing.Closing.{Closing}
-use Rattle.events.specs.declared.closing.Closing.TheVariants.{Complete, Early}
+use Rattle.events.specs.declared.closing.Early.{Early}
 use Rattle.session.specs.declared.inner.Inner.{Inner}
 use Rattle.session.specs.Finishing.{finished_kind, finished_set, is_finished, Lowest}
 use Rattle.session.specs.Kept.{no_set, record_of, set_at, monitor_of}
@@ -65,14 +64,14 @@ module _ (sh : Sheet) (book : Book) (opening depth : ℕ) (es : List Event) (acc
   acts_in_set m l e = kind_acts sh m (InSet (monitor_of accepted inner) m) (set_at accepted m (record_of inner m).set).kind (kind_is m l) (sym (by_kind m l) ∙ e)
 
   -- the lowest role that is not finished by the tables is the one that closing has to answer
-  pub closes : (r : Closing) → Lowest accepted inner r → Closes sh es r
-  closes Complete all =
-      let done = λ (m : ℕ) (l : m < length sh.roles). done_in m l (all m (omega (arith, roles, l))) in
-      (λ m l. done_after m l (done m l), (closing book sh w.sheet.valid w.sheet.parted opening depth es (monitor_of accepted inner) w.stands).0 done)
-  closes (Early role) low =
-      let l : role < length sh.roles = omega (arith, roles, low.0) in (
+  pub closes : (r : Result (Unit {0}) Early) → Lowest accepted inner r → Closes sh es r
+  closes (Ok done) all =
+      let each = λ (m : ℕ) (l : m < length sh.roles). done_in m l (all m (omega (arith, roles, l))) in
+      (λ m l. done_after m l (each m l), (closing book sh w.sheet.valid w.sheet.parted opening depth es (monitor_of accepted inner) w.stands).0 each)
+  closes (Err early) low =
+      let l : early.role < length sh.roles = omega (arith, roles, low.0) in (
         l,
-        λ done. acts_in_set role l low.1 (done_before role l done),
+        λ done. acts_in_set early.role l low.1 (done_before early.role l done),
         λ m h. let k : m < length sh.roles = omega arith in done_after m k (done_in m k (low.2 m h)),
-        λ completes. acts_in_set role l low.1 ((closing book sh w.sheet.valid w.sheet.parted opening depth es (monitor_of accepted inner) w.stands).1 completes role l),
+        λ completes. acts_in_set early.role l low.1 ((closing book sh w.sheet.valid w.sheet.parted opening depth es (monitor_of accepted inner) w.stands).1 completes early.role l),
       )

@@ -5,10 +5,9 @@ use Rattle.sheet.specs.Model.{Sheet}
 use Rattle.events.specs.declared.event.Event.{Event}
 use Rattle.parting.specs.declared.accepted.Accepted.{Accepted}
 use Rattle.runs.specs.Run.{Book}
-use Rattle.events.specs.declared.call.Answer.{Answer}
 use Rattle.events.specs.declared.call.Entry.{Entry}
 use Rattle.session.specs.declared.inner.Inner.{Inner}
-use Rattle.session.specs.Calls.{Right, after, passed, Prescribed, call_of, calls}
+use Rattle.session.specs.Calls.{Answer, Right, after, passed, Prescribed, call_of, calls}
 use Rattle.session.specs.Watches.{Watches}
 
 pub passed_push : (es : List Event) (xs : List Entry) (x : Entry) → passed es (xs ++ (x ∷ [])) ≡ after (passed es xs) x.call x.answer

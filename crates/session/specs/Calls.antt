@@ -1,32 +1,37 @@
 -- Meaning: what the answers to a list of calls have to be, by runs of the sheet alone.
-use Rattle.std.specs.Prelude.{ℕ, List, [], ◌∷◌, ◌++◌, map}
+use Rattle.std.specs.Prelude.{ℕ, List, [], ◌∷◌, ◌++◌, map, Some, None, Ok, Err, Option, Result}
 use Rattle.sheet.specs.Model.{Sheet}
 use Rattle.events.specs.declared.event.Event.{Event}
 use Rattle.runs.specs.Run.{Book}
 use Rattle.events.specs.declared.call.Call.{Call}
 use Rattle.events.specs.declared.call.Call.TheVariants.{Judge, Forecast}
-use Rattle.events.specs.declared.call.Answer.{Answer}
-use Rattle.events.specs.declared.call.Answer.TheVariants.{Open, Passed, Next, Stopped}
 use Rattle.events.specs.declared.call.Entry.{Entry}
+use Rattle.events.specs.declared.call.Reply.{Reply}
+use Rattle.events.specs.declared.call.Reply.TheVariants.{Passed, Next}
+use Rattle.events.specs.declared.fault.SessionFault.{SessionFault}
 use Rattle.session.specs.Outcomes.{Passing, Stopping, Forecasting, NoRole}
+
+-- what a call is answered, and none where it is not asked yet
+abbrev pub Answer : Type 0
+Answer = Option (Result Reply SessionFault)
 
 -- the answer that a call has to get after the events es passed
 abbrev pub Right : Sheet → Book → ℕ → ℕ → List Event → Call → Answer → Type 0
-Right sh book opening depth es (Judge e) (Passed n) = Passing sh book opening depth es e n
-Right sh book opening depth es (Judge e) (Stopped fault) = Stopping sh book opening depth es e fault
-Right sh book opening depth es (Forecast role) (Next tick) = Forecasting sh book opening depth es role tick
-Right sh book opening depth es (Forecast role) (Stopped fault) = NoRole sh role fault
-Right sh book opening depth es (Judge e) (Next tick) = ⊥
-Right sh book opening depth es (Judge e) Open = ⊥
-Right sh book opening depth es (Forecast role) (Passed n) = ⊥
-Right sh book opening depth es (Forecast role) Open = ⊥
+Right sh book opening depth es (Judge e) (Some (Ok (Passed n))) = Passing sh book opening depth es e n
+Right sh book opening depth es (Judge e) (Some (Err fault)) = Stopping sh book opening depth es e fault
+Right sh book opening depth es (Forecast role) (Some (Ok (Next tick))) = Forecasting sh book opening depth es role tick
+Right sh book opening depth es (Forecast role) (Some (Err fault)) = NoRole sh role fault
+Right sh book opening depth es (Judge e) (Some (Ok (Next tick))) = ⊥
+Right sh book opening depth es (Judge e) None = ⊥
+Right sh book opening depth es (Forecast role) (Some (Ok (Passed n))) = ⊥
+Right sh book opening depth es (Forecast role) None = ⊥
 
 -- the events that have passed once a call is answered: one more after an event that passed, else the same
 abbrev pub after : List Event → Call → Answer → List Event
-after es (Judge e) (Passed n) = es ++ (e ∷ [])
-after es (Judge e) (Stopped fault) = es
-after es (Judge e) (Next tick) = es
-after es (Judge e) Open = es
+after es (Judge e) (Some (Ok (Passed n))) = es ++ (e ∷ [])
+after es (Judge e) (Some (Err fault)) = es
+after es (Judge e) (Some (Ok (Next tick))) = es
+after es (Judge e) None = es
 after es (Forecast role) a = es
 
 -- the events that have passed once all of these are answered

@@ -1,11 +1,10 @@
 -- Computed: which roles are finished.
-use Rattle.std.specs.Prelude.{◌≡◌, ℕ, ◌<◌, Bool, true, false, Some, None, Option}
+use Rattle.std.specs.Prelude.{◌≡◌, ℕ, ◌<◌, Bool, true, false, Some, None, Ok, Err, Option, Result}
 use Rattle.parting.specs.declared.accepted.Accepted.{Accepted}
 use Rattle.parting.specs.declared.local.LocalKind.{LocalKind}
 use Rattle.parting.specs.declared.local.LocalKind.TheVariants.{Finished, Sending, Receiving}
 use Rattle.parting.specs.declared.local.LocalSet.{LocalSet}
-use Rattle.events.specs.declared.closing.Closing.{Closing}
-use Rattle.events.specs.declared.closing.Closing.TheVariants.{Complete, Early}
+use Rattle.events.specs.declared.closing.Early.{Early}
 use Rattle.session.specs.declared.inner.Inner.{Inner}
 use Rattle.session.specs.Kept.{record_of}
 use Rattle.session.specs.Prepared.{set_in_part}
@@ -23,6 +22,6 @@ abbrev pub is_finished : Accepted → Inner → ℕ → Bool
 is_finished accepted inner m = finished_set (set_in_part accepted m (record_of inner m).set)
 
 -- all are finished, or this is the lowest that is not
-abbrev pub Lowest : Accepted → Inner → Closing → Type 0
-Lowest accepted inner Complete = (m : ℕ) → m < accepted.counts.roles → is_finished accepted inner m ≡ true
-Lowest accepted inner (Early role) = (role < accepted.counts.roles) × (is_finished accepted inner role ≡ false) × ((m : ℕ) → m < role → is_finished accepted inner m ≡ true)
+abbrev pub Lowest : Accepted → Inner → Result (Unit {0}) Early → Type 0
+Lowest accepted inner (Ok done) = (m : ℕ) → m < accepted.counts.roles → is_finished accepted inner m ≡ true
+Lowest accepted inner (Err early) = (early.role < accepted.counts.roles) × (is_finished accepted inner early.role ≡ false) × ((m : ℕ) → m < early.role → is_finished accepted inner m ≡ true)

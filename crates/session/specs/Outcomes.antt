@@ -1,5 +1,5 @@
 -- Meaning: what the calls of a session have to answer after the events that have passed, by runs of the sheet.
-use Rattle.std.specs.Prelude.{◌≡◌, ℕ, ◌-◌, ◌<◌, ◌≤◌, cond, ◌≢◌, List, [], ◌∷◌, ◌++◌, length, Option, ◌==◌}
+use Rattle.std.specs.Prelude.{◌≡◌, ℕ, ◌-◌, ◌<◌, ◌≤◌, cond, ◌≢◌, List, [], ◌∷◌, ◌++◌, length, Ok, Err, Option, Result, ◌==◌}
 use Rattle.sheet.specs.Model.{Sheet}
 use Rattle.protocol.specs.Places.{Place}
 use Rattle.protocol.specs.Actions.{Action}
@@ -13,8 +13,7 @@ use Rattle.runs.specs.Monitor.{Able}
 use Rattle.runs.specs.Stands.{last_tick, SetAfter}
 use Rattle.runs.specs.Closing.{Finished, Completes}
 use Rattle.runs.specs.Laws.{Least, Could}
-use Rattle.events.specs.declared.closing.Closing.{Closing}
-use Rattle.events.specs.declared.closing.Closing.TheVariants.{Complete, Early}
+use Rattle.events.specs.declared.closing.Early.{Early}
 use Rattle.events.specs.declared.fault.SessionFault.{SessionFault}
 use Rattle.events.specs.declared.fault.SessionFault.TheVariants.{Book as TooFewRows, Depth, Who, What, Back, Turn, Line, Full, Time}
 
@@ -98,10 +97,10 @@ pub record NoRole (sh : Sheet) (role : ℕ) (fault : SessionFault) : Type 0 wher
   pub unknown : length sh.roles ≤ role
   pub who : fault ≡ Who role 0
 
--- what closing has to answer: complete exactly when every role is finished, which is when some path to an end has every
+-- what closing has to answer: Ok exactly when every role is finished, which is when some path to an end has every
 -- role's events as its whole share; else the lowest role that is not finished
-abbrev pub Closes : Sheet → List Event → Closing → Type 0
-Closes sh es Complete = ((m : ℕ) → m < length sh.roles → Finished sh m (SetAfter sh m es)) × Completes sh es
-Closes sh es (Early role) =
-    (role < length sh.roles) × (Finished sh role (SetAfter sh role es) → ⊥) ×
-    ((m : ℕ) → m < role → Finished sh m (SetAfter sh m es)) × (Completes sh es → ⊥)
+abbrev pub Closes : Sheet → List Event → Result (Unit {0}) Early → Type 0
+Closes sh es (Ok done) = ((m : ℕ) → m < length sh.roles → Finished sh m (SetAfter sh m es)) × Completes sh es
+Closes sh es (Err early) =
+    (early.role < length sh.roles) × (Finished sh early.role (SetAfter sh early.role es) → ⊥) ×
+    ((m : ℕ) → m < early.role → Finished sh m (SetAfter sh m es)) × (Completes sh es → ⊥)

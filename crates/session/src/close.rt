@@ -12,7 +12,7 @@ use crate::inner::Inner;
 use crate::local::set_in;
 use crate::session::Session;
 use books::time_book::TimeBook;
-use events::closing::Closing;
+use events::closing::Early;
 use parting::accepted::Accepted;
 use parting::local::LocalKind;
 
@@ -38,15 +38,15 @@ impl<B: TimeBook> Session<B> {
 }
 
 /// Whether every role is finished, else the lowest that is not.
-fn closing(accepted: &Accepted, inner: &Inner) -> Closing
+fn closing(accepted: &Accepted, inner: &Inner) -> Result<(), Early>
     ensures { Lowest accepted.now inner.now result }
 {
     for role in 0..accepted.counts().roles {
         if !finished(accepted, inner, role) {
-            return Closing::Early { role };
+            return Err(Early { role });
         }
     }
-    Closing::Complete
+    Ok(())
 }
 
 /// Whether the role has nothing more to do.

@@ -1,6 +1,6 @@
 //! A session that is closed.
 
-use events::closing::Closing;
+use events::closing::Early;
 use parting::accepted::Accepted;
 
 /// A session that is closed: the accepted sheet and the book that it was opened with, and what closing answers.
@@ -8,5 +8,5 @@ use parting::accepted::Accepted;
 pub struct Closed<B> {
     pub accepted: Accepted,
     pub book: B,
-    pub closing: Closing,
+    pub closing: Result<(), Early>,
 }

@@ -31,14 +31,9 @@ pub fn watch<B: TimeBook>(
     ensures asked { calls log.new ≡ calls log.old }
     ensures whole { MatchResult result (λ c. (c.accepted ≡ accepted) × (c.book ≡ book) × ((sh : Sheet) → IsOf sh accepted → Prescribed sh (B.TimeBook.admits book) tick depth [] log.new × Closes sh (passed [] log.new) c.closing)) (λ e. (e.accepted ≡ accepted) × (e.book ≡ book) × (log.new ≡ log.old)) }
 {
-    let mut session = match Session::open(accepted, book, tick, depth) {
-        Ok(session) => session,
-        Err(stopped) => return Err(stopped),
-    };
-    let mut i = 0;
-    while i < log.len() {
-        log[i].answer = session.ask(log[i].call);
-        i += 1;
+    let mut session = Session::open(accepted, book, tick, depth)?;
+    for entry in log.iter_mut() {
+        entry.answer = Some(session.ask(entry.call));
     }
     Ok(session.close())
 }

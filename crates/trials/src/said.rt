@@ -1,6 +1,6 @@
 //! What a session says.
 
-use events::closing::Closing;
+use events::closing::Early;
 use std::fmt;
 use stops::stop::Stop;
 
@@ -15,10 +15,10 @@ pub enum Said {
 }
 
 /// What closing says.
-pub fn closing_said(closing: Closing) -> Said {
-    match closing.stop() {
-        Some(stop) => Said::Stopped(stop),
-        None => Said::Complete,
+pub fn closing_said(closing: Result<(), Early>) -> Said {
+    match closing {
+        Ok(()) => Said::Complete,
+        Err(early) => Said::Stopped(Stop::from(early)),
     }
 }
 
