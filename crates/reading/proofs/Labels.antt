@@ -1,6 +1,8 @@
 -- Labels by name, through the laws of sameness.
-use Rattle.std.proofs.Common.{◌≡◌, ℕ, ◌<◌, List, [], get_or, Some, None, Option, sym, ap, ◌∙◌, ⊎_elim}
-use Rattle.std.proofs.lemmas.Bool.{cases_order}
+use Rattle.std.proofs.Common.{◌≡◌, ℕ, ◌+◌, ◌<◌, Bool, true, false, List, [], length, get_or, Some, None, Option, MatchOption, sym, ap, ◌∙◌, ⊎_elim, arith}
+use Rattle.std.specs.List.{range_with_len, AllWithin, HoldsAt}
+use Rattle.std.proofs.lemmas.List.FromFn.{length-range_with_len, get_or-range_with_len}
+use Rattle.std.proofs.lemmas.Bool.{both_ways, cases_order}
 use Rattle.sheet.specs.Decode.{model}
 use Rattle.sheet.specs.Model.{Name, Sheet}
 use Rattle.sheet.specs.Names.{same}
@@ -27,3 +29,20 @@ only_one sh distinct name i j a b =
 pub exactly : (sh : Sheet) (name : Name) (r : Option ℕ) → Finds sh name r → FindsExactly sh name r
 exactly sh name None f = λ i h e. f i (h, ap (λ n. same n name) e ∙ same_refl name)
 exactly sh name (Some i) f = (f.0.0, same_equal _ _ f.0.1)
+
+-- what a search through the labels in their order finds
+pub finds_first : (sh : Sheet) → Distinct sh.labels → (name : Name) (first : ℕ) (test : ℕ → Bool)
+    → ((i : ℕ) → i < length sh.labels → same (get_or sh.labels i []) name ≡ test (first + i))
+    → (r : Option ℕ) (all : List ℕ) → all ≡ range_with_len first (length sh.labels)
+    → MatchOption r (AllWithin (λ j. test j ≡ false) all 0 (length all)) (λ i. (i < length all) × HoldsAt (λ j. test j ≡ true) all i × AllWithin (λ j. test j ≡ false) all 0 i)
+    → Finds sh name r
+finds_first sh distinct name first test told None all e m = λ i a.
+    let many : length all ≡ length sh.labels = ap length e ∙ length-range_with_len first (length sh.labels) in
+    let at : get_or all i 0 ≡ first + i = ap (λ xs. get_or xs i 0) e ∙ get_or-range_with_len first (length sh.labels) i 0 a.0 in
+    both_ways (test (first + i)) (sym (ap test at) ∙ m i 0 (omega arith) (omega (arith, a.0))) (sym (told i a.0) ∙ a.1)
+finds_first sh distinct name first test told (Some i) all e m =
+    let many : length all ≡ length sh.labels = ap length e ∙ length-range_with_len first (length sh.labels) in
+    let inside : i < length sh.labels = omega (arith, m.0) in
+    let at : get_or all i 0 ≡ first + i = ap (λ xs. get_or xs i 0) e ∙ get_or-range_with_len first (length sh.labels) i 0 inside in
+    let found : Called sh name i = (inside, told i inside ∙ sym (ap test at) ∙ m.1 0) in
+    (found, λ j b. only_one sh distinct name i j found b)

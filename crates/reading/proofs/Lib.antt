@@ -4,4 +4,5 @@ mod Handing
 mod Labels
 mod NameSteps
 mod Pieces
+mod Printable
 mod Spelling

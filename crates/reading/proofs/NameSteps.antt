@@ -1,9 +1,8 @@
 -- The checks of names, one name at a time.
-use Rattle.std.proofs.Common.{◌≡◌, ℕ, ◌+◌, ◌<◌, ◌≤◌, true, false, List, [], ◌∷◌, ◌++◌, map, length, get_or, Some, None, ap, ◌∙◌}
-use Rattle.std.specs.List.{between}
+use Rattle.std.proofs.Common.{◌≡◌, ℕ, zero, suc, ◌+◌, ◌-◌, ◌<◌, ◌≤◌, true, false, ◌||◌, List, [], ◌∷◌, ◌++◌, map, length, get_or, take, drop, Some, None, refl, ap, ◌∙◌, arith}
+use Rattle.std.specs.List.{between, list_any, range_with_len}
 use Rattle.std.proofs.lemmas.List.Edits.{between_more}
-use Rattle.std.proofs.lemmas.List.{map_push}
-use Rattle.std.proofs.lemmas.Bool.{or_left}
+use Rattle.std.proofs.lemmas.List.{map_push, drop_more}
 use Rattle.sheet.specs.declared.fault.ReadFault.{ReadFault}
 use Rattle.sheet.specs.declared.fault.ReadFault.TheVariants.{Twice}
 use Rattle.sheet.specs.declared.span.Span.{Span}
@@ -14,15 +13,16 @@ use Rattle.sheet.specs.Refuse.{among, byte_fault, name_fault}
 use Rattle.reading.specs.Places.{nowhere}
 use Rattle.reading.proofs.Pieces.{between_first}
 
+-- a name among those of the n pairs from i on, as a test of the pairs' numbers
+pub among_pairs : (bytes : List ℕ) (ss : List Span) (name : Name) (i n : ℕ) → n ≤ length ss - i
+    → list_any (λ j. same name (cut bytes (get_or ss j nowhere))) (range_with_len i n) ≡ among name (map (cut bytes) (take n (drop i ss)))
+among_pairs bytes ss name i zero h = refl
+among_pairs bytes ss name i (suc n) h =
+    let here : i < length ss = omega arith in
+    let rest = among_pairs bytes ss name (i + 1) n (omega arith) in
+    rw (drop_more ss i nowhere here) (ap (λ t. same name (cut bytes (get_or ss i nowhere)) || t) rest)
+
 module _ (bytes : List ℕ) (ss : List Span) (i end : ℕ) (h : i < end) (k : i < length ss) where
-  -- comparing with the earlier names, of which i is the first that is left
-  pub among_here : (name : Name) → same name (cut bytes (get_or ss i nowhere)) ≡ true → among name (map (cut bytes) (between i end ss)) ≡ true
-  among_here name e = rw (between_first ss i end nowhere h k) (or_left _ _ e)
-
-  pub among_more : (name : Name) → same name (cut bytes (get_or ss i nowhere)) ≡ false
-      → among name (map (cut bytes) (between i end ss)) ≡ among name (map (cut bytes) (between (i + 1) end ss))
-  among_more name e = rw (between_first ss i end nowhere h k, e)
-
   module _ (earlier : List Name) where
     pub name_byte : (f : ReadFault) → byte_fault (get_or ss i nowhere).offset (cut bytes (get_or ss i nowhere)) ≡ Some f
         → name_fault bytes i earlier (between i end ss) ≡ Some f

@@ -26,7 +26,7 @@ between_first xs i j d h k =
     rw (drop_more xs i d k, n)
 
 -- what a check of a piece and its offset answered is what it answers at the pair's span
-pub judged_at : (check : ℕ → List ℕ → Option ReadFault) (bytes : List ℕ) (ss : List Span) (pair : ℕ) (span : Span) (piece : List ℕ) (found : Option ReadFault)
-    → span ≡ get_or ss pair nowhere → piece ≡ cut bytes (get_or ss pair nowhere) → found ≡ check span.offset piece
+pub judged_at : (check : ℕ → List ℕ → Option ReadFault) (bytes : List ℕ) (ss : List Span) (pair offset : ℕ) (piece : List ℕ) (found : Option ReadFault)
+    → offset ≡ (get_or ss pair nowhere).offset → piece ≡ cut bytes (get_or ss pair nowhere) → found ≡ check offset piece
     → check (get_or ss pair nowhere).offset (cut bytes (get_or ss pair nowhere)) ≡ found
-judged_at check bytes ss pair span piece found s p e = sym (e ∙ ap (λ x. check x.offset piece) s ∙ ap (check (get_or ss pair nowhere).offset) p)
+judged_at check bytes ss pair offset piece found o p e = sym (e ∙ ap (λ x. check x piece) o ∙ ap (check (get_or ss pair nowhere).offset) p)

@@ -1,12 +1,12 @@
 -- Meaning: what a sheet that has been read stands for.
-use Rattle.std.specs.Prelude.{◌≡◌, ℕ, List, take}
+use Rattle.std.specs.Prelude.{◌≡◌, ℕ, List}
 use Rattle.sheet.specs.Decode.{model}
 use Rattle.sheet.specs.Law.{Encodes}
 use Rattle.sheet.specs.Model.{Sheet}
 use Rattle.reading.specs.declared.read_sheet.ReadSheet.{ReadSheet}
 
 abbrev pub bytes_of : ReadSheet → List ℕ
-bytes_of s = take s.len s.bytes
+bytes_of s = s.bytes.items
 
 -- the sheet that it stands for
 abbrev pub sheet_of : ReadSheet → Sheet

@@ -1,11 +1,12 @@
 //! Finding a label by its name.
 
-ghost use Rattle.std.specs.Prelude.{◌≡◌};
+ghost use Rattle.std.specs.Prelude.{◌<◌};
+ghost use Rattle.sheet.specs.Decode.{piece_count_in};
 ghost use Rattle.reading.specs.Finding.{Finds, FindsExactly};
 ghost use Rattle.reading.specs.Reads.{sheet_of};
 
 use crate::names::same_name;
-use crate::pairs::piece_at;
+use crate::piece::Kind;
 use crate::read_sheet::ReadSheet;
 
 impl ReadSheet {
@@ -14,13 +15,11 @@ impl ReadSheet {
         ensures found { Finds (sheet_of self.now) name.now result }
         ensures exact { FindsExactly (sheet_of self.now) name.now result }
     {
-        let bytes = self.bytes();
-        let counts = self.counts();
-        for label in 0..counts.labels as usize {
-            if same_name(piece_at(bytes, counts.roles as usize + label), name) {
-                return Some(label);
-            }
-        }
-        None
+        let tiled = self.tiled();
+        let first = Kind::Label.first(self.counts());
+        let called = |pair: usize| -> bool
+            requires { pair < piece_count_in tiled.paired.counts }
+        { same_name(tiled.piece(pair).bytes, name) };
+        (first..first + self.count(Kind::Label)).position(called)
     }
 }

@@ -6,6 +6,7 @@ ghost use Rattle.sheet.specs.Encode.{begin};
 ghost use Rattle.sheet.specs.Refuse.{count_fault, header_fault};
 ghost use Rattle.reading.specs.Faults.{fault_of};
 
+use crate::places::Paired;
 use sheet::counts::Counts;
 use sheet::fault::ReadFault;
 
@@ -60,21 +61,23 @@ fn check_counts(counts: Counts) -> Result<(), ReadFault>
     Ok(())
 }
 
-// The counts, where stops 1 to 3 are not met.
-pub(crate) fn read_header(bytes: &[u8]) -> Result<Counts, ReadFault>
-    ensures judged { fault_of result ≡ header_fault bytes.now }
-    ensures value { IfOk result (λ c. (c ≡ counts_read bytes.now) × (begin (piece_count_in c) ≤ length bytes.now)) }
-{
-    if bytes.len() < 5 {
-        return Err(ReadFault::Short { given: bytes.len() });
+impl<'a> Paired<'a> {
+    // The header: stops 1 to 3.
+    pub(crate) fn read(bytes: &'a [u8]) -> Result<Paired<'a>, ReadFault>
+        ensures judged { fault_of result ≡ header_fault bytes.now }
+        ensures value { IfOk result (λ p. p.bytes.now ≡ bytes.now) }
+    {
+        if bytes.len() < 5 {
+            return Err(ReadFault::Short { given: bytes.len() });
+        }
+        if bytes[0] != 1 {
+            return Err(ReadFault::Edition);
+        }
+        let counts = counts_in(bytes);
+        check_counts(counts)?;
+        if bytes.len() < first_offset(counts) {
+            return Err(ReadFault::Short { given: bytes.len() });
+        }
+        Ok(Paired { bytes, counts })
     }
-    if bytes[0] != 1 {
-        return Err(ReadFault::Edition);
-    }
-    let counts = counts_in(bytes);
-    check_counts(counts)?;
-    if bytes.len() < first_offset(counts) {
-        return Err(ReadFault::Short { given: bytes.len() });
-    }
-    Ok(counts)
 }

@@ -7,6 +7,7 @@ mod header;
 pub mod names;
 mod pairs;
 pub mod piece;
+mod places;
 pub mod read;
 pub mod read_sheet;
 pub mod states;

@@ -1,78 +1,62 @@
 //! Names: sameness, and the rules for the names of a sheet.
 
-ghost use Rattle.std.specs.Prelude.{◌≡◌, ◌+◌, ◌^◌, ◌<◌, ◌≤◌, [], map, length, Decides, slice_index_or};
+ghost use Rattle.std.specs.Prelude.{◌≡◌, ◌<◌, ◌≤◌, [], map, Decides, slice_index_or};
 ghost use Rattle.std.specs.List.{between};
-ghost use Rattle.sheet.specs.Decode.{counts as counts_read, piece_count_in, table, cut};
-ghost use Rattle.sheet.specs.Names.{alike as alike_in, same};
+ghost use Rattle.sheet.specs.Decode.{piece_count_in, table, cut};
+ghost use Rattle.sheet.specs.Names.{same};
 ghost use Rattle.sheet.specs.Refuse.{among, byte_fault, name_fault};
 ghost use Rattle.reading.specs.Faults.{fault_of};
-ghost use Rattle.reading.specs.Places.{Tiled, nowhere};
+ghost use Rattle.reading.specs.Places.{nowhere};
 
-use crate::pairs::{piece_at, span_at};
+use crate::places::{Stretch, Tiled};
 use sheet::fault::ReadFault;
-
-// Whether two bytes of names read alike.
-fn alike(x: u8, y: u8) -> bool
-    ensures { result ≡ alike_in x y }
-{
-    x == y
-}
 
 /// Whether two names are the same: byte for byte.
 pub fn same_name(a: &[u8], b: &[u8]) -> bool
     ensures value { result ≡ same a.now b.now }
     ensures exact { Decides result (a.now ≡ b.now) }
 {
-    if a.len() != b.len() {
-        return false;
-    }
-    for i in 0..a.len() {
-        if !alike(a[i], b[i]) {
-            return false;
-        }
-    }
-    true
+    a == b
 }
 
 // Stop 5: every byte of a name is printable.
-fn check_bytes(name: &[u8], offset: usize) -> Result<(), ReadFault>
-    requires { offset + length name.now < 2 ^ 64 }
-    ensures { fault_of result ≡ byte_fault offset name.now }
+fn check_bytes(name: Stretch<'_>) -> Result<(), ReadFault>
+    ensures { fault_of result ≡ byte_fault name.entry.offset name.entry.bytes.now }
 {
-    for i in 0..name.len() {
-        if !matches!(name[i], 0x21..=0x7E) {
-            return Err(ReadFault::Byte { offset: offset + i });
-        }
+    match name.bytes.iter().position(|byte| !byte.is_ascii_graphic()) {
+        Some(at) => Err(ReadFault::Byte {
+            offset: name.offset + at,
+        }),
+        None => Ok(()),
     }
-    Ok(())
 }
 
-// Whether a name is the same as an earlier one of its kind, the first of which is at the pair `first`.
-fn repeats(bytes: &[u8], first: usize, pair: usize) -> bool
-    requires tiled { Tiled bytes.now }
-    requires first_le_pair { (first ≤ pair) × (pair < piece_count_in (counts_read bytes.now)) }
-    ensures { result ≡ among (cut bytes.now (slice_index_or (table bytes.now) pair nowhere)) (map (cut bytes.now) (between first pair (table bytes.now))) }
-{
-    let name = piece_at(bytes, pair);
-    for earlier in first..pair {
-        if same_name(name, piece_at(bytes, earlier)) {
-            return true;
-        }
+impl Tiled<'_> {
+    // Whether a name is the same as one of those of the pairs from `first` to below `end`.
+    fn repeats(self, name: &[u8], first: usize, end: usize) -> bool
+        requires { end ≤ piece_count_in self.paired.counts }
+        ensures { result ≡ among name.now (map (cut self.entry.paired.bytes.now) (between first end (table self.entry.paired.bytes.now))) }
+    {
+        (first..end).any(
+            |pair|
+                requires { pair < piece_count_in self.paired.counts }
+            { same_name(name, self.piece(pair).bytes) },
+        )
     }
-    false
-}
 
-// Stops 5 and 6, name by name, for the names of one kind: those of the pairs from `first` to below `end`.
-pub(crate) fn check_names(bytes: &[u8], first: usize, end: usize) -> Result<(), ReadFault>
-    requires tiled { Tiled bytes.now }
-    requires first_le_end { (first ≤ end) × (end ≤ piece_count_in (counts_read bytes.now)) }
-    ensures { fault_of result ≡ name_fault bytes.now first [] (between first end (table bytes.now)) }
-{
-    for pair in first..end {
-        check_bytes(piece_at(bytes, pair), span_at(bytes, pair).offset)?;
-        if repeats(bytes, first, pair) {
-            return Err(ReadFault::Twice { pair });
+    // Stops 5 and 6, name by name, for the names of one kind: those of the pairs from `first` to below `end`.
+    pub(crate) fn check_names(self, first: usize, end: usize) -> Result<(), ReadFault>
+        requires { (first ≤ end) × (end ≤ piece_count_in self.paired.counts) }
+        ensures { fault_of result ≡ name_fault self.entry.paired.bytes.now first [] (between first end (table self.entry.paired.bytes.now)) }
+    {
+        // A loop, since each name is refused by its own pair, and for one of two faults.
+        for pair in first..end {
+            let name = self.piece(pair);
+            check_bytes(name)?;
+            if self.repeats(name.bytes, first, pair) {
+                return Err(ReadFault::Twice { pair });
+            }
         }
+        Ok(())
     }
-    Ok(())
 }

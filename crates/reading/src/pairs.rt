@@ -1,14 +1,14 @@
 //! The pairs of offset and length, which say where each piece lies.
 
-ghost use Rattle.std.specs.Prelude.{◌≡◌, ℕ, ◌+◌, ◌*◌, ◌^◌, ◌<◌, ◌≤◌, Bool, length, slice_index_or};
-ghost use Rattle.sheet.specs.Decode.{counts as counts_read, piece_count_in, number, table, cut};
+ghost use Rattle.std.specs.Prelude.{◌≡◌, ℕ, ◌+◌, ◌*◌, ◌^◌, ◌<◌, ◌≤◌, Bool, length, slice_index_or, IfOk};
+ghost use Rattle.sheet.specs.Decode.{piece_count_in, number, table, cut};
 ghost use Rattle.sheet.specs.Encode.{begin};
 ghost use Rattle.sheet.specs.Refuse.{placed as placed_in, sized, table_fault};
 ghost use Rattle.reading.specs.Faults.{fault_of};
-ghost use Rattle.reading.specs.Places.{Paired, Tiled, nowhere};
+ghost use Rattle.reading.specs.Places.{nowhere};
 
 use crate::header::{first_offset, name_count, piece_count};
-use sheet::counts::Counts;
+use crate::places::{Paired, Stretch, Tiled};
 use sheet::fault::ReadFault;
 use sheet::span::Span;
 
@@ -18,31 +18,7 @@ fn number_at(bytes: &[u8], at: usize) -> usize
     ensures value { result ≡ number bytes.now at }
     ensures bound { result < 2 ^ 16 }
 {
-    bytes[at] as usize * 256 + bytes[at + 1] as usize
-}
-
-// Where the piece of a pair lies.
-pub(crate) fn span_at(bytes: &[u8], pair: usize) -> Span
-    requires paired { Paired bytes.now }
-    requires pair_bound { pair < piece_count_in (counts_read bytes.now) }
-    ensures value { result ≡ slice_index_or (table bytes.now) pair nowhere }
-    ensures bound { (result.offset < 2 ^ 16) × (result.size < 2 ^ 16) }
-{
-    Span {
-        offset: number_at(bytes, 5 + 4 * pair),
-        size: number_at(bytes, 7 + 4 * pair),
-    }
-}
-
-// The piece of a pair: a part of the sheet's own bytes.
-pub(crate) fn piece_at(bytes: &[u8], pair: usize) -> &[u8]
-    requires tiled { Tiled bytes.now }
-    requires pair_bound { pair < piece_count_in (counts_read bytes.now) }
-    ensures value { result.now ≡ cut bytes.now (slice_index_or (table bytes.now) pair nowhere) }
-    ensures size { length result.now < 2 ^ 16 }
-{
-    let Span { offset, size } = span_at(bytes, pair);
-    &bytes[offset..offset + size]
+    u16::from_be_bytes([bytes[at], bytes[at + 1]]) as usize
 }
 
 // Whether a pair's piece begins at the offset that is due, has a length that its kind may have, and ends by the limit.
@@ -65,25 +41,52 @@ fn has_size(named: bool, size: usize) -> bool
     }
 }
 
-// Stop 4: each piece begins where the one before ends, the first right after the pairs, and the last ends with the sheet.
-pub(crate) fn check_pairs(bytes: &[u8], counts: Counts) -> Result<(), ReadFault>
-    requires paired { Paired bytes.now }
-    requires counts_value { counts ≡ counts_read bytes.now }
-    ensures { fault_of result ≡ table_fault bytes.now }
-{
-    let limit = bytes.len();
-    let names = name_count(counts);
-    let count = piece_count(counts);
-    let mut at = first_offset(counts);
-    for pair in 0..count {
-        let span = span_at(bytes, pair);
-        if !placed(limit, pair < names, at, span) {
-            return Err(ReadFault::Pair { pair });
+impl<'a> Paired<'a> {
+    // Where the piece of a pair lies.
+    pub(crate) fn span(self, pair: usize) -> Span
+        requires { pair < piece_count_in self.counts }
+        ensures value { result ≡ slice_index_or (table self.entry.bytes.now) pair nowhere }
+        ensures bound { (result.offset < 2 ^ 16) × (result.size < 2 ^ 16) }
+    {
+        Span {
+            offset: number_at(self.bytes, 5 + 4 * pair),
+            size: number_at(self.bytes, 7 + 4 * pair),
         }
-        at += span.size;
     }
-    if at != limit {
-        return Err(ReadFault::Pair { pair: count });
+
+    // Stop 4: each piece begins where the one before ends, the first right after the pairs, and the last ends with the sheet.
+    pub(crate) fn tiled(self) -> Result<Tiled<'a>, ReadFault>
+        ensures judged { fault_of result ≡ table_fault self.entry.bytes.now }
+        ensures value { IfOk result (λ t. t.paired ≡ self.entry) }
+    {
+        let limit = self.bytes.len();
+        let names = name_count(self.counts);
+        let count = piece_count(self.counts);
+        let mut at = first_offset(self.counts);
+        // A loop with `?` would be no plainer: the place that is due is carried from pair to pair.
+        for pair in 0..count {
+            let span = self.span(pair);
+            if !placed(limit, pair < names, at, span) {
+                return Err(ReadFault::Pair { pair });
+            }
+            at += span.size;
+        }
+        if at != limit {
+            return Err(ReadFault::Pair { pair: count });
+        }
+        Ok(Tiled { paired: self })
     }
-    Ok(())
+}
+
+impl<'a> Tiled<'a> {
+    // The piece of a pair: a part of the sheet's own bytes.
+    pub(crate) fn piece(self, pair: usize) -> Stretch<'a>
+        requires { pair < piece_count_in self.paired.counts }
+        ensures offset { result.offset ≡ (slice_index_or (table self.entry.paired.bytes.now) pair nowhere).offset }
+        ensures value { result.bytes.now ≡ cut self.entry.paired.bytes.now (slice_index_or (table self.entry.paired.bytes.now) pair nowhere) }
+    {
+        let Span { offset, size } = self.paired.span(pair);
+        let bytes = &self.paired.bytes[offset..offset + size];
+        Stretch { offset, bytes }
+    }
 }

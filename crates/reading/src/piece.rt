@@ -7,8 +7,8 @@ ghost use Rattle.sheet.specs.Refuse.{fault};
 ghost use Rattle.reading.specs.Reads.{bytes_of, sheet_of};
 ghost use Rattle.reading.specs.Handing.{counts_of, first_pair, piece_count_of, seen, handed, OwnPart};
 
-use crate::header::counts_in;
-use crate::pairs::{piece_at, span_at};
+use crate::header::{counts_in, name_count};
+use crate::places::{Paired, Stretch, Tiled};
 use crate::read_sheet::ReadSheet;
 use sheet::counts::Counts;
 
@@ -29,26 +29,38 @@ pub enum Piece<'a> {
     State { body: &'a [u8], offset: usize },
 }
 
-// The pair of the first piece of a kind, and how many pieces the kind has.
-fn place(kind: Kind, counts: Counts) -> (usize, usize)
-    ensures { result ≡ (first_pair counts kind, piece_count_of counts kind) }
-{
-    let roles = counts.roles as usize;
-    let labels = counts.labels as usize;
-    match kind {
-        Kind::Role => (0, roles),
-        Kind::Label => (roles, labels),
-        Kind::State => (roles + labels, counts.states as usize),
+impl Kind {
+    // The pair of the first piece of this kind.
+    pub(crate) fn first(self, counts: Counts) -> usize
+        ensures { result ≡ first_pair counts self }
+    {
+        match self {
+            Kind::Role => 0,
+            Kind::Label => counts.roles as usize,
+            Kind::State => name_count(counts),
+        }
     }
 }
 
-fn named<'a>(kind: Kind, body: &'a [u8], offset: usize) -> Piece<'a>
-    ensures { seen result ≡ record { kind = kind; bytes = body.now; offset = offset } }
-{
-    match kind {
-        Kind::Role => Piece::Role { name: body, offset },
-        Kind::Label => Piece::Label { name: body, offset },
-        Kind::State => Piece::State { body, offset },
+impl<'a> Piece<'a> {
+    fn new(kind: Kind, part: Stretch<'a>) -> Piece<'a>
+        ensures { seen result ≡ record { kind = kind; bytes = part.entry.bytes.now; offset = part.entry.offset } }
+    {
+        let Stretch { offset, bytes } = part;
+        match kind {
+            Kind::Role => Piece::Role {
+                name: bytes,
+                offset,
+            },
+            Kind::Label => Piece::Label {
+                name: bytes,
+                offset,
+            },
+            Kind::State => Piece::State {
+                body: bytes,
+                offset,
+            },
+        }
     }
 }
 
@@ -58,7 +70,7 @@ impl ReadSheet {
         ensures value { result.now ≡ bytes_of self.now }
         ensures sound { fault result.now ≡ None }
     {
-        &self.bytes[0..self.len]
+        self.bytes.as_slice()
     }
 
     /// How many roles, labels, states and time rows the sheet has.
@@ -69,17 +81,38 @@ impl ReadSheet {
         counts_in(self.bytes())
     }
 
+    /// How many pieces of that kind the sheet has.
+    pub fn count(&self, kind: Kind) -> usize
+        ensures { result ≡ piece_count_of (counts_of (sheet_of self.now)) kind }
+    {
+        let counts = self.counts();
+        match kind {
+            Kind::Role => counts.roles as usize,
+            Kind::Label => counts.labels as usize,
+            Kind::State => counts.states as usize,
+        }
+    }
+
     /// The piece of that kind and number, or none where the kind has no such number.
     pub fn piece(&self, kind: Kind, number: usize) -> Option<Piece<'_>>
         ensures value { option_map seen result ≡ handed (sheet_of self.now) kind number }
         ensures own { OwnPart (bytes_of self.now) result }
     {
-        let (first, count) = place(kind, self.counts());
-        if number >= count {
+        if number >= self.count(kind) {
             return None;
         }
-        let bytes = self.bytes();
-        let pair = first + number;
-        Some(named(kind, piece_at(bytes, pair), span_at(bytes, pair).offset))
+        let pair = kind.first(self.counts()) + number;
+        Some(Piece::new(kind, self.tiled().piece(pair)))
+    }
+
+    // The sheet's bytes and counts, as the checks have them.
+    pub(crate) fn tiled(&self) -> Tiled<'_>
+        ensures { result.paired.bytes.now ≡ bytes_of self.now }
+    {
+        let paired = Paired {
+            bytes: self.bytes(),
+            counts: self.counts(),
+        };
+        Tiled { paired }
     }
 }

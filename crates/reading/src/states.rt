@@ -3,14 +3,13 @@
 ghost use Rattle.std.specs.Prelude.{◌≡◌, ◌+◌, ◌^◌, ◌<◌, ◌≤◌, [], ◌∷◌, length, MatchOption};
 ghost use Rattle.std.specs.Iterator.{YieldsFirst, item_count};
 ghost use Rattle.sheet.specs.Model.{ended, exchange};
-ghost use Rattle.sheet.specs.Decode.{counts as counts_read, name_count_of, piece_count_in, table, branches as branches_in, state_of, state_spans};
+ghost use Rattle.sheet.specs.Decode.{branches as branches_in, state_of, state_spans};
 ghost use Rattle.sheet.specs.Refuse.{row, branch_fault, branches_fault, state_fault, states_fault};
 ghost use Rattle.reading.specs.Branching.{branches_left};
 ghost use Rattle.reading.specs.Faults.{fault_of};
-ghost use Rattle.reading.specs.Places.{Tiled};
 
 use crate::header::{name_count, piece_count};
-use crate::pairs::{piece_at, span_at};
+use crate::places::{Stretch, Tiled};
 use sheet::branch::Branch;
 use sheet::counts::Counts;
 use sheet::fault::ReadFault;
@@ -115,13 +114,12 @@ fn check_branch(counts: Counts, offset: usize, low: usize, branch: Branch) -> Re
 }
 
 #[tactic(auto, using(crate::proofs::Bodies::branches_length))]
-fn check_branches(counts: Counts, offset: usize, bytes: &[u8]) -> Result<(), ReadFault>
-    requires { offset + length bytes.now + 5 < 2 ^ 64 }
-    ensures { fault_of result ≡ branches_fault counts offset 0 (branches_in bytes.now) }
+fn check_branches(counts: Counts, branches: Stretch<'_>) -> Result<(), ReadFault>
+    ensures { fault_of result ≡ branches_fault counts branches.entry.offset 0 (branches_in branches.entry.bytes.now) }
 {
-    let mut at = offset;
+    let mut at = branches.offset;
     let mut low = 0;
-    for branch in Branches::new(bytes) {
+    for branch in Branches::new(branches.bytes) {
         check_branch(counts, at, low, branch)?;
         at += 5;
         low = branch.label as usize + 1;
@@ -129,31 +127,37 @@ fn check_branches(counts: Counts, offset: usize, bytes: &[u8]) -> Result<(), Rea
     Ok(())
 }
 
-// Stop 7 in the state at this offset.
-fn check_state(counts: Counts, offset: usize, body: &[u8]) -> Result<(), ReadFault>
-    requires { offset + length body.now + 5 < 2 ^ 64 }
-    ensures { fault_of result ≡ state_fault counts offset (state_of body.now) }
+// Stop 7 in one state.
+fn check_state(counts: Counts, state: Stretch<'_>) -> Result<(), ReadFault>
+    ensures { fault_of result ≡ state_fault counts state.entry.offset (state_of state.entry.bytes.now) }
 {
-    let Some(exchange) = split_state(body) else {
+    let Some(exchange) = split_state(state.bytes) else {
         return Ok(());
     };
+    let offset = state.offset;
     if exchange.sender >= counts.roles {
         return Err(ReadFault::State { offset });
     }
     if exchange.receiver >= counts.roles || exchange.receiver == exchange.sender {
         return Err(ReadFault::State { offset: offset + 1 });
     }
-    check_branches(counts, offset + 2, exchange.branches)
+    let branches = Stretch {
+        offset: offset + 2,
+        bytes: exchange.branches,
+    };
+    check_branches(counts, branches)
 }
 
-// Stop 7, state by state.
-pub(crate) fn check_states(bytes: &[u8], counts: Counts) -> Result<(), ReadFault>
-    requires tiled { Tiled bytes.now }
-    requires counts_value { counts ≡ counts_read bytes.now }
-    ensures { fault_of result ≡ states_fault counts bytes.now (state_spans bytes.now) }
-{
-    for pair in name_count(counts)..piece_count(counts) {
-        check_state(counts, span_at(bytes, pair).offset, piece_at(bytes, pair))?;
+impl Tiled<'_> {
+    // Stop 7, state by state.
+    pub(crate) fn check_states(self) -> Result<(), ReadFault>
+        ensures { fault_of result ≡ states_fault self.entry.paired.counts self.entry.paired.bytes.now (state_spans self.entry.paired.bytes.now) }
+    {
+        let counts = self.paired.counts;
+        // A loop with `?`: `try_for_each` would say the same with a closure around it.
+        for pair in name_count(counts)..piece_count(counts) {
+            check_state(counts, self.piece(pair))?;
+        }
+        Ok(())
     }
-    Ok(())
 }

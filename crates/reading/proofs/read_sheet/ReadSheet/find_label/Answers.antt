@@ -1,67 +1,52 @@
-use Rattle.std.proofs.Common.{◌≡◌, ℕ, ◌+◌, ◌<◌, Bool, true, false, List, [], length, get_or, Some, None, sym, ap, ◌∙◌, subst, arith, below_more}
-use Rattle.std.proofs.lemmas.Bool.{both_ways}
-use Rattle.sheet.specs.declared.counts.Counts.{Counts}
+use Rattle.std.proofs.Common.{◌≡◌, ℕ, ◌+◌, ◌-◌, ◌<◌, true, false, List, [], length, get_or, None, sym, ap, ◌∙◌, subst, refl, arith, rules, tests}
+use Rattle.std.specs.List.{range_with_len}
+use Rattle.std.proofs.lemmas.Iterator.{YieldsList-from_range, IsFirst-from_position, serves_from_Range}
 use Rattle.sheet.specs.Decode.{counts, piece_count_in, table, cut, model}
 use Rattle.sheet.specs.Names.{same}
 use Rattle.sheet.specs.Refuse.{fault}
 use Rattle.reading.specs.declared.piece.Kind.TheVariants.{Label}
-use Rattle.reading.specs.Finding.{Finds}
+use Rattle.reading.specs.Handing.{piece_count_of}
 use Rattle.reading.specs.Places.{nowhere}
 use Rattle.reading.specs.Reads.{bytes_of, sheet_of}
-use Rattle.reading.proofs.Handing.{tiled_from_clean, pair_below, piece_is}
-use Rattle.reading.proofs.Labels.{labels_distinct, only_one, exactly}
+use Rattle.reading.proofs.Handing.{none_from_test, counts_are, piece_is}
+use Rattle.reading.proofs.Labels.{labels_distinct, finds_first, exactly}
 use Rattle.reading.proofs.read_sheet.ReadSheet.find_label.Goals as goal
 
-module _ (bytes whole : List ℕ) (is : bytes ≡ whole) (clean : fault bytes ≡ None) (k : Counts) (counted : k ≡ counts whole) (l : ℕ) (h : l < k.labels) where
-  below : l < (counts bytes).labels
-  below = subst (λ c. l < c.labels) (counted ∙ ap counts (sym is)) h
-
-  roles : k.roles ≡ (counts bytes).roles
-  roles = ap (λ c. c.roles) (counted ∙ ap counts (sym is))
-
-  there : k.roles + l < piece_count_in (counts bytes)
-  there = subst (λ r. r + l < piece_count_in (counts bytes)) (sym roles) (pair_below bytes clean Label l below)
+module _ (whole : List ℕ) (clean : fault whole ≡ None) (label : ℕ) (h : label < length (model whole).labels) (first : ℕ) (e : first ≡ (counts whole).roles) where
+  inside : label < (counts whole).labels
+  inside = subst (λ k. label < piece_count_of k Label) (sym (counts_are whole clean)) h
 
   -- what was compared is the label's name
-  compared : (r : Bool) (piece name : List ℕ) → r ≡ same piece name → piece ≡ cut bytes (get_or (table bytes) (k.roles + l) nowhere) → same (get_or (model whole).labels l []) name ≡ r
-  compared r piece name e p =
-      sym (e ∙ ap (λ n. same n name) (p ∙ ap (λ i. cut bytes (get_or (table bytes) (i + l) nowhere)) roles ∙ piece_is bytes clean Label l below ∙ ap (λ b. get_or (model b).labels l []) is))
+  compared : (bytes name : List ℕ) → bytes ≡ whole → same (get_or (model whole).labels label []) name ≡ same (cut bytes (get_or (table bytes) (first + label) nowhere)) name
+  compared bytes name is =
+      sym
+      (ap (λ b. same (cut b (get_or (table b) (first + label) nowhere)) name) is
+      ∙ ap (λ f. same (cut whole (get_or (table whole) (f + label) nowhere)) name) e
+      ∙ ap (λ p. same p name) (piece_is whole clean Label label inside))
 
-pub piece_at-requires : goal.piece_at-requires
-piece_at-requires c =
-    let bytes = c.bytes-bytes.result.now in
-    record {
-      tiled = tiled_from_clean bytes c.bytes-bytes.ensures.sound;
-      pair_bound = there bytes _ c.bytes-bytes.ensures.value c.bytes-bytes.ensures.sound c.counts-counts.result c.counts-counts.ensures.read c.loop-label.label c.loop-label-test.true;
-    }
-
-pub returns-then-same_name : goal.returns-then-same_name
-returns-then-same_name c =
-    let sh = sheet_of c.args.self.now in
-    let name = c.args.name.now in
-    let l = c.loop-label.label in
-    let is = c.bytes-bytes.ensures.value in
-    let found : same (get_or sh.labels l []) name ≡ true =
-    compared c.bytes-bytes.result.now _ is c.bytes-bytes.ensures.sound c.counts-counts.result c.counts-counts.ensures.read l c.loop-label-test.true
-    true c.piece_at.result.now name c.if-same_name.ensures.value c.piece_at.ensures.value in
-    let inside : l < length sh.labels = omega (arith, ap (λ x. x.labels) c.counts-counts.ensures.value, c.loop-label-test.true) in
-    let distinct = labels_distinct (bytes_of c.args.self.now) (ap fault (sym is) ∙ c.bytes-bytes.ensures.sound) in
-    let f : Finds sh name (Some l) = ((inside, found), λ j b. only_one sh distinct name l j (inside, found) b) in
-    record { found = f; exact = exactly sh name (Some l) f }
-
-pub loop-label-preserved : goal.loop-label-preserved
-loop-label-preserved c =
-    let sh = sheet_of c.args.self.now in
-    let name = c.args.name.now in
-    let l = c.loop-label.label in
-    let other : same (get_or sh.labels l []) name ≡ false =
-    compared c.bytes-bytes.result.now _ c.bytes-bytes.ensures.value c.bytes-bytes.ensures.sound c.counts-counts.result c.counts-counts.ensures.read l c.loop-label-test.true
-    false c.piece_at.result.now name c.if-same_name.ensures.value c.piece_at.ensures.value in
-    below_more (λ k. same (get_or sh.labels k []) name ≡ true → ⊥) l c.loop-label.invariant (λ t. both_ways _ other t)
+pub position-requires-clause-callable : goal.position-requires-clause-callable
+position-requires-clause-callable c =
+    let whole = bytes_of c.args.self.now in
+    let clean = none_from_test (fault whole) c.args.self.now.sound in
+    let first = c.first-first.ensures ∙ ap (λ k. k.roles) c.counts.ensures.read in
+    let count = c.count.ensures ∙ ap (λ k. k.labels) (sym (counts_are whole clean)) in
+    let pairs = ap piece_count_in (c.tiled-tiled.result.paired.counted ∙ ap counts c.tiled-tiled.ensures) in
+    serves_from_Range (λ x q k. search (rules, tests)) (λ x low high. omega arith)
 
 pub returns : goal.returns
 returns c =
-    let sh = sheet_of c.args.self.now in
+    let whole = bytes_of c.args.self.now in
+    let clean = none_from_test (fault whole) c.args.self.now.sound in
+    let bytes = c.tiled-tiled.result.paired.bytes.now in
     let name = c.args.name.now in
-    let f : Finds sh name None = λ i a. c.loop-label.invariant i (omega (arith, ap (λ x. x.labels) c.counts-counts.ensures.value, c.loop-label-test.false, a.0)) a.1 in
-    record { found = f; exact = exactly sh name None f }
+    let first = c.first-first.result in
+    let e = c.first-first.ensures ∙ ap (λ k. k.roles) c.counts.ensures.read in
+    let test = λ (pair : ℕ). same (cut bytes (get_or (table bytes) pair nowhere)) name in
+    let size : first + c.count.result - first ≡ c.count.result = omega arith in
+    let ran =
+    IsFirst-from_position _ _ c.position.result (λ pair. test pair ≡ true) (λ pair. test pair ≡ false) c.position.ensures.ran
+    (YieldsList-from_range first (first + c.count.result) c.count.result refl size) (λ x q k. search (rules, tests)) (λ x q k. search (rules, tests)) in
+    let f =
+    finds_first (sheet_of c.args.self.now) (labels_distinct whole clean) name first test (λ i h. compared whole clean i h first e bytes name c.tiled-tiled.ensures)
+    c.position.result (range_with_len first c.count.result) (ap (range_with_len first) c.count.ensures) ran in
+    record { found = f; exact = exactly (sheet_of c.args.self.now) name c.position.result f }

@@ -1,86 +1,83 @@
-use Rattle.std.proofs.Common.{◌≡◌, ℕ, ◌+◌, ◌<◌, ◌≤◌, List, length, get_or, take, drop, Some, None, sym, ap, ◌∙◌, subst, arith}
+use Rattle.std.proofs.Common.{◌≡◌, ℕ, ◌+◌, ◌<◌, ◌≤◌, List, length, get_or, take, drop, Some, None, sym, ap, ◌∙◌, subst}
 use Rattle.std.proofs.lemmas.Bool.{lt-ltb, le-ltb, cond-true, cond-false}
 use Rattle.sheet.specs.declared.counts.Counts.{Counts}
 use Rattle.sheet.specs.declared.span.Span.{Span}
 use Rattle.sheet.specs.Decode.{counts, piece_count_in, table, cut, model}
 use Rattle.sheet.specs.Model.{Sheet}
 use Rattle.sheet.specs.Refuse.{fault}
-use Rattle.sheet.proofs.Clean.{pairs_there}
 use Rattle.reading.specs.declared.piece.Kind.{Kind}
 use Rattle.reading.specs.Handing.{Part, counts_of, piece_count_of, first_pair, piece_of, seen, handed}
-use Rattle.reading.specs.Reads.{bytes_of}
+use Rattle.reading.specs.Reads.{bytes_of, sheet_of}
 use Rattle.reading.specs.Places.{nowhere}
-use Rattle.reading.proofs.Handing.{tiled_from_clean, counts_are, pair_below, piece_is, piece_offset, piece_own}
+use Rattle.reading.proofs.Handing.{none_from_test, counts_are, pair_below, piece_is, piece_offset, piece_own}
 use Rattle.reading.proofs.read_sheet.ReadSheet.piece.Goals as goal
 
-past_end : (sh : Sheet) (c : Counts) (kind : Kind) (n : ℕ) → c ≡ counts_of sh → piece_count_of c kind ≤ n → None ≡ handed sh kind n
-past_end sh c kind n is h =
-    sym (cond-false _ _ None (le-ltb n (piece_count_of (counts_of sh) kind) (subst (λ k. piece_count_of k kind ≤ n) is h)))
+past_end : (sh : Sheet) (kind : Kind) (n : ℕ) → piece_count_of (counts_of sh) kind ≤ n → None ≡ handed sh kind n
+past_end sh kind n h = sym (cond-false _ _ None (le-ltb n (piece_count_of (counts_of sh) kind) h))
 
-module _ (bytes : List ℕ) (clean : fault bytes ≡ None) (kind : Kind) (n : ℕ) (h : n < piece_count_of (counts bytes) kind) where
-  within : (seen : Part) → seen ≡ record { kind = kind; bytes = cut bytes (get_or (table bytes) (first_pair (counts bytes) kind + n) nowhere); offset = (get_or (table bytes) (first_pair (counts bytes) kind + n) nowhere).offset }
-      → Some seen ≡ handed (model bytes) kind n
-  within seen e =
+module _ (bytes : List ℕ) (clean : fault bytes ≡ None) (kind : Kind) (n : ℕ) (h : n < piece_count_of (counts_of (model bytes)) kind) where
+  inside : n < piece_count_of (counts bytes) kind
+  inside = subst (λ k. n < piece_count_of k kind) (sym (counts_are bytes clean)) h
+
+  abbrev span : Span
+  span = get_or (table bytes) (first_pair (counts bytes) kind + n) nowhere
+
+  -- the pair at which the piece is looked up
+  below : (k : Counts) (first : ℕ) → k ≡ counts bytes → first ≡ first_pair (counts bytes) kind → first + n < piece_count_in k
+  below k first is e =
+      subst (λ f. f + n < piece_count_in k) (sym e) (subst (λ x. first_pair (counts bytes) kind + n < piece_count_in x) (sym is) (pair_below bytes clean kind n inside))
+
+  within : (part : Part) → part ≡ record { kind = kind; bytes = cut bytes span; offset = span.offset } → Some part ≡ handed (model bytes) kind n
+  within part e =
       ap Some
       (e
-      ∙ ap (λ p. record { kind = kind; bytes = p; offset = (get_or (table bytes) (first_pair (counts bytes) kind + n) nowhere).offset }) (piece_is bytes clean kind n h)
-      ∙ ap (λ o. record { kind = kind; bytes = piece_of (model bytes) kind n; offset = o }) (piece_offset bytes clean kind n h))
-      ∙ sym (cond-true _ _ None (lt-ltb n (piece_count_of (counts_of (model bytes)) kind) (subst (λ k. n < piece_count_of k kind) (counts_are bytes clean) h)))
+      ∙ ap (λ p. record { kind = kind; bytes = p; offset = span.offset }) (piece_is bytes clean kind n inside)
+      ∙ ap (λ o. record { kind = kind; bytes = piece_of (model bytes) kind n; offset = o }) (piece_offset bytes clean kind n inside))
+      ∙ sym (cond-true _ _ None (lt-ltb n (piece_count_of (counts_of (model bytes)) kind) h))
 
-pair_there : (bytes : List ℕ) → fault bytes ≡ None → (k : Counts) → k ≡ counts bytes → (kind : Kind) (n : ℕ) (place : ℕ × ℕ) → place ≡ (first_pair k kind, piece_count_of k kind) → n < place.1
-    → (n < piece_count_of (counts bytes) kind) × (place.0 ≡ first_pair (counts bytes) kind) × (place.0 + n < piece_count_in (counts bytes))
-pair_there bytes clean k is kind n place e h =
-    let first : place.0 ≡ first_pair (counts bytes) kind = ap (λ p. p.0) e ∙ ap (λ x. first_pair x kind) is in
-    let count : place.1 ≡ piece_count_of (counts bytes) kind = ap (λ p. p.1) e ∙ ap (λ x. piece_count_of x kind) is in
-    let inside : n < piece_count_of (counts bytes) kind = omega arith in
-    (inside, first, subst (λ f. f + n < piece_count_in (counts bytes)) (sym first) (pair_below bytes clean kind n inside))
+  own : (part : Part) → part ≡ record { kind = kind; bytes = cut bytes span; offset = span.offset } → part.bytes ≡ take (length part.bytes) (drop part.offset bytes)
+  own part e =
+      piece_own bytes clean kind n inside part.bytes (ap (λ x. x.bytes) e)
+      ∙ ap (λ o. take (length part.bytes) (drop o bytes)) (sym (ap (λ x. x.offset) e))
 
-pub piece_at-requires : goal.piece_at-requires
-piece_at-requires c =
-    let bytes = c.bytes-bytes.result.now in
-    let clean = c.bytes-bytes.ensures.sound in
-    let k = c.counts.ensures.read ∙ ap counts (sym c.bytes-bytes.ensures.value) in
-    record {
-      tiled = tiled_from_clean bytes clean;
-      pair_bound = (pair_there bytes clean c.counts.result k c.args.kind c.args.number c.place-first.result c.place-first.ensures c.if-number-count.false).2;
-    }
+  -- the part that was cut out of the same bytes
+  told : (other : List ℕ) (first : ℕ) (piece : List ℕ) (offset : ℕ) → other ≡ bytes → first ≡ first_pair (counts bytes) kind
+      → offset ≡ (get_or (table other) (first + n) nowhere).offset → piece ≡ cut other (get_or (table other) (first + n) nowhere)
+      → (part : Part) → part ≡ record { kind = kind; bytes = piece; offset = offset } → part ≡ record { kind = kind; bytes = cut bytes span; offset = span.offset }
+  told other first piece offset is e o p part q =
+      let at : get_or (table other) (first + n) nowhere ≡ span = ap (λ b. get_or (table b) (first + n) nowhere) is ∙ ap (λ f. get_or (table bytes) (f + n) nowhere) e in
+      q
+      ∙ ap (λ b. record { kind = kind; bytes = b; offset = offset }) (p ∙ ap (λ b. cut b (get_or (table other) (first + n) nowhere)) is ∙ ap (cut bytes) at)
+      ∙ ap (λ x. record { kind = kind; bytes = cut bytes span; offset = x }) (o ∙ ap (λ s. s.offset) at)
 
-pub span_at-requires : goal.span_at-requires
-span_at-requires c =
-    let bytes = c.bytes-bytes.result.now in
-    let clean = c.bytes-bytes.ensures.sound in
-    let k = c.counts.ensures.read ∙ ap counts (sym c.bytes-bytes.ensures.value) in
-    record {
-      paired = pairs_there bytes clean;
-      pair_bound = (pair_there bytes clean c.counts.result k c.args.kind c.args.number c.place-first.result c.place-first.ensures c.if-number-count.false).2;
-    }
+pub piece-requires : goal.piece-requires
+piece-requires c =
+    let bytes = bytes_of c.args.self.now in
+    let clean = none_from_test (fault bytes) c.args.self.now.sound in
+    let kind = c.args.kind in
+    let inside = subst (λ m. c.args.number < m) c.count.ensures c.if-number-count.false in
+    below bytes clean kind c.args.number inside c.tiled.result.paired.counts c.first.result
+    (c.tiled.result.paired.counted ∙ ap counts c.tiled.ensures)
+    (c.first.ensures ∙ ap (λ k. first_pair k kind) c.counts.ensures.read)
 
 pub returns-then-number-count : goal.returns-then-number-count
 returns-then-number-count c =
     record {
-      value = past_end _ c.counts.result c.args.kind c.args.number c.counts.ensures.value (omega (arith, ap (λ p. p.1) c.place-first.ensures, c.if-number-count.true));
+      value = past_end (sheet_of c.args.self.now) c.args.kind c.args.number (subst (λ m. m ≤ c.args.number) c.count.ensures c.if-number-count.true);
       own = tt;
     }
 
 pub returns : goal.returns
 returns c =
-    let bytes = c.bytes-bytes.result.now in
-    let is : bytes ≡ bytes_of c.args.self.now = c.bytes-bytes.ensures.value in
-    let clean = c.bytes-bytes.ensures.sound in
-    let k = c.counts.ensures.read ∙ ap counts (sym is) in
+    let bytes = bytes_of c.args.self.now in
+    let clean = none_from_test (fault bytes) c.args.self.now.sound in
     let kind = c.args.kind in
     let n = c.args.number in
-    let there = pair_there bytes clean c.counts.result k kind n c.place-first.result c.place-first.ensures c.if-number-count.false in
-    let s : Span = get_or (table bytes) (first_pair (counts bytes) kind + n) nowhere in
-    let at : get_or (table bytes) (c.place-first.result.0 + n) nowhere ≡ s = ap (λ f. get_or (table bytes) (f + n) nowhere) there.1 in
-    let seen-is : seen c.named.result ≡ record { kind = kind; bytes = cut bytes s; offset = s.offset } =
-    c.named.ensures
-    ∙ ap (λ p. record { kind = kind; bytes = p; offset = c.span_at.result.offset }) (c.piece_at.ensures.value ∙ ap (cut bytes) at)
-    ∙ ap (λ x. record { kind = kind; bytes = cut bytes s; offset = x.offset }) (c.span_at.ensures.value ∙ at) in
+    let inside = subst (λ m. n < m) c.count.ensures c.if-number-count.false in
+    let first-is : c.first.result ≡ first_pair (counts bytes) kind = c.first.ensures ∙ ap (λ k. first_pair k kind) c.counts.ensures.read in
+    let part-is = told bytes clean kind n inside c.tiled.result.paired.bytes.now c.first.result c.piece.result.bytes.now c.piece.result.offset c.tiled.ensures first-is
+    c.piece.ensures.offset c.piece.ensures.value (seen c.new.result) c.new.ensures in
     record {
-      value = within bytes clean kind n there.0 (seen c.named.result) seen-is ∙ ap (λ b. handed (model b) kind n) is;
-      own =
-          piece_own bytes clean kind n there.0 (seen c.named.result).bytes (ap (λ x. x.bytes) seen-is)
-          ∙ ap (λ o. take (length (seen c.named.result).bytes) (drop o bytes)) (sym (ap (λ x. x.offset) seen-is))
-          ∙ ap (λ b. take (length (seen c.named.result).bytes) (drop (seen c.named.result).offset b)) is;
+      value = within bytes clean kind n inside (seen c.new.result) part-is;
+      own = own bytes clean kind n inside (seen c.new.result) part-is;
     }

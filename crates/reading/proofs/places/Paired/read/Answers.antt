@@ -4,7 +4,7 @@ use Rattle.std.proofs.lemmas.Result.{err_from_is_err_and}
 use Rattle.sheet.specs.Decode.{counts}
 use Rattle.sheet.specs.Refuse.{count_fault, header_fault}
 use Rattle.reading.proofs.Checks.{first_unless}
-use Rattle.reading.proofs.header.read_header.Goals as goal
+use Rattle.reading.proofs.places.Paired.read.Goals as goal
 
 pub returns-then-bytes-lt5 : goal.returns-then-bytes-lt5
 unfolding header_fault

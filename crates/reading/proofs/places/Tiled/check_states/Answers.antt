@@ -9,7 +9,7 @@ use Rattle.sheet.specs.Refuse.{state_fault, states_fault}
 use Rattle.sheet.proofs.Spans.{length-table}
 use Rattle.reading.specs.Places.{nowhere}
 use Rattle.reading.proofs.Pieces.{judged_at}
-use Rattle.reading.proofs.states.check_states.Goals as goal
+use Rattle.reading.proofs.places.Tiled.check_states.Goals as goal
 
 module _ (counts : Counts) (bytes : List ℕ) (ss : List Span) (i : ℕ) (h : i < length ss) where
   here : (f : ReadFault) → state_fault counts (get_or ss i nowhere).offset (state_at bytes (get_or ss i nowhere)) ≡ Some f → states_fault counts bytes (drop i ss) ≡ Some f
@@ -20,33 +20,33 @@ module _ (counts : Counts) (bytes : List ℕ) (ss : List Span) (i : ℕ) (h : i 
 
 pub returns-in_err-check_state : goal.returns-in_err-check_state
 returns-in_err-check_state c =
-    let bytes = c.args.bytes.now in
+    let bytes = c.args.self.paired.bytes.now in
     let ss = table bytes in
     let i = c.loop-pair.pair in
-    let k = c.args.counts in
-    let within : i < length ss = omega (arith, length-table bytes, c.piece_count-pair-end.ensures, ap piece_count_in c.requires.counts_value) in
+    let k = c.args.self.paired.counts in
+    let within : i < length ss = omega (arith, length-table bytes, c.piece_count-pair-end.ensures, ap piece_count_in c.args.self.paired.counted) in
     let judged : state_fault k (get_or ss i nowhere).offset (state_at bytes (get_or ss i nowhere)) ≡ Some c.in_err-check_state.field-0.0 =
-    judged_at (λ o p. state_fault k o (state_of p)) bytes ss i _ _ _ c.span_at.ensures.value c.piece_at.ensures.value c.in_err-check_state.ensures in
+    judged_at (λ o p. state_fault k o (state_of p)) bytes ss i _ _ _ c.piece.ensures.offset c.piece.ensures.value c.in_err-check_state.ensures in
     let p = err_from_is_err_and c.from_residual.result c.from_residual.ensures.1 in
     rw (p.1, p.2) (sym (here k bytes ss i within _ judged) ∙ c.loop-pair.invariant)
 
 pub loop-pair-preserved : goal.loop-pair-preserved
 loop-pair-preserved c =
-    let bytes = c.args.bytes.now in
+    let bytes = c.args.self.paired.bytes.now in
     let ss = table bytes in
     let i = c.loop-pair.pair in
-    let k = c.args.counts in
-    let within : i < length ss = omega (arith, length-table bytes, c.piece_count-pair-end.ensures, ap piece_count_in c.requires.counts_value) in
+    let k = c.args.self.paired.counts in
+    let within : i < length ss = omega (arith, length-table bytes, c.piece_count-pair-end.ensures, ap piece_count_in c.args.self.paired.counted) in
     let judged : state_fault k (get_or ss i nowhere).offset (state_at bytes (get_or ss i nowhere)) ≡ None =
-    judged_at (λ o p. state_fault k o (state_of p)) bytes ss i _ _ _ c.span_at.ensures.value c.piece_at.ensures.value c.in_ok-check_state.ensures in
+    judged_at (λ o p. state_fault k o (state_of p)) bytes ss i _ _ _ c.piece.ensures.offset c.piece.ensures.value c.in_ok-check_state.ensures in
     sym (more k bytes ss i within judged) ∙ c.loop-pair.invariant
 
 pub loop-pair-init : goal.loop-pair-init
 loop-pair-init c =
-    ap (λ n. states_fault c.args.counts c.args.bytes.now (drop n (table c.args.bytes.now))) (c.name_count-pair.ensures ∙ ap name_count_of c.requires.counts_value)
+    ap (λ n. states_fault c.args.self.paired.counts c.args.self.paired.bytes.now (drop n (table c.args.self.paired.bytes.now))) (c.name_count-pair.ensures ∙ ap name_count_of c.args.self.paired.counted)
 
 pub returns : goal.returns
 returns c =
-    let bytes = c.args.bytes.now in
-    let all : length (table bytes) ≤ c.loop-pair.pair = omega (arith, length-table bytes, c.piece_count-pair-end.ensures, ap piece_count_in c.requires.counts_value) in
-    sym (at_drop_all (states_fault c.args.counts bytes) (table bytes) c.loop-pair.pair all) ∙ c.loop-pair.invariant
+    let bytes = c.args.self.paired.bytes.now in
+    let all : length (table bytes) ≤ c.loop-pair.pair = omega (arith, length-table bytes, c.piece_count-pair-end.ensures, ap piece_count_in c.args.self.paired.counted) in
+    sym (at_drop_all (states_fault c.args.self.paired.counts bytes) (table bytes) c.loop-pair.pair all) ∙ c.loop-pair.invariant
