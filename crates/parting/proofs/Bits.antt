@@ -1,18 +1,13 @@
 -- What the bits of a mask say.
-use Rattle.std.proofs.Common.{◌≡◌, ℕ, ◌/◌, ◌%◌, ◌^◌, ◌<◌, ◌≤◌, Bool, false, ◌||◌, eqb, ◌⊎◌, sym, ap, ◌∙◌, inl, inr, arith}
+use Rattle.std.proofs.Common.{◌≡◌, ℕ, ◌/◌, ◌%◌, ◌^◌, Bool, false, ◌||◌, eqb, ◌⊎◌, sym, ap, ◌∙◌, inl, inr, arith}
 use lib.Bits.{bit_or}
-use Rattle.std.proofs.lemmas.Nat.Bits.{bit_at-zero, bit_at_or, bit_at-pow_same, bit_at-pow_other, bit_at_above}
+use Rattle.std.proofs.lemmas.Nat.Bits.{bit_at-zero, bit_at_or, bit_at-pow_same, bit_at-pow_other}
 use Rattle.std.proofs.lemmas.Bool.{eq-eqb, ne_eqb, cases_eq}
 use Rattle.parting.specs.Masks.{has, add}
 
 pub has_none : (s : ℕ) → has 0 s ≡ false
 unfolding has
 has_none s = rw (bit_at-zero s)
-
--- no number from 64 on is in a mask
-pub has_beyond : (mask k : ℕ) → mask < 2 ^ 64 → 64 ≤ k → has mask k ≡ false
-unfolding has
-has_beyond mask k h l = rw (bit_at_above mask 64 k h l)
 
 pub has_add : (s X t : ℕ) → has (add s X) t ≡ (eqb t s || has X t)
 unfolding has add

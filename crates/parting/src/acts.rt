@@ -1,8 +1,9 @@
 //! What a role does, in a sheet or in the states of one set.
 
 ghost use Rattle.std.specs.Prelude.{◌≡◌, ℕ, ◌<◌, ◌≤◌, Bool, length, map};
+ghost use Rattle.std.specs.Borrow.{Bor};
 ghost use Rattle.parting.specs.Bounds.{SmallAct, SmallPlaces};
-ghost use Rattle.parting.specs.Calls.{Computes};
+ghost use Rattle.parting.specs.Calls.{ComputesAt};
 ghost use Rattle.parting.specs.Family.{ends as ends_in};
 ghost use Rattle.parting.specs.Judge.{in_set as in_set_of, first_with, labels_of_state};
 ghost use Rattle.parting.specs.Masks.{gather as gather_in};
@@ -71,8 +72,8 @@ impl Acts {
         self.list
             .as_slice()
             .iter()
-            .copied()
             .find(|act| act.label == label)
+            .copied()
     }
 
     // The states in which the role acts.
@@ -97,16 +98,16 @@ impl Acts {
     }
 
     // The mask of the numbers that `number` gives of the acts that meet the test.
-    fn gather<T: Fn(Act) -> bool, N: Fn(Act) -> u8>(&self, test: T, number: N) -> u64
+    fn gather<T: Fn(&Act) -> bool, N: Fn(&Act) -> u8>(&self, test: T, number: N) -> u64
         requires tests { T.IsAlwaysCallable test }
         requires numbers { N.IsAlwaysCallable number }
-        requires small { (a : Act) (n : ℕ) → SmallAct a → N.post number a n → n < 64 }
-        ensures { (t : Act → Bool) (n : Act → ℕ) → Computes (T.post test) t → Computes (N.post number) n → result ≡ gather_in t n 0 self.now }
+        requires small { (a : Bor Act) (n : ℕ) → SmallAct a.now → N.post number a n → n < 64 }
+        ensures { (t : Act → Bool) (n : Act → ℕ) → ComputesAt (T.post test) t → ComputesAt (N.post number) n → result ≡ gather_in t n 0 self.now }
     {
         let mut mask = 0;
         for act in self.list.as_slice() {
-            if test(*act) {
-                mask = with(mask, number(*act));
+            if test(act) {
+                mask = with(mask, number(act));
             }
         }
         mask

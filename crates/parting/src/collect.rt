@@ -1,6 +1,6 @@
 //! Lists made from lists, in slots of their own.
 
-ghost use Rattle.std.specs.Prelude.{◌≡◌, ◌≤◌, List, length};
+ghost use Rattle.std.specs.Prelude.{◌≡◌, ◌≤◌, List, All, length};
 ghost use Rattle.std.specs.List.{flat_map};
 ghost use Rattle.parting.specs.Calls.{GivesListed};
 
@@ -15,7 +15,7 @@ pub(crate) fn collect<T: Copy, U: Default + Drop, F: Fn(T) -> Option<U>>(
     give: F,
 ) -> ArrayVec<U, MOST>
     requires bound { length from.now ≤ 512 }
-    requires callable { F.IsAlwaysCallable give }
+    requires callable { All (λ x. F.pre give x) from.now }
     ensures { (h : T → List U) → GivesListed (F.post give) h → result.items ≡ flat_map h from.now }
 {
     let mut found = ArrayVec::new();

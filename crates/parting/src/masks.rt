@@ -4,9 +4,10 @@ ghost use Rattle.std.specs.Prelude.{◌≡◌, ◌<◌};
 ghost use Rattle.parting.specs.Masks.{has as has_in, add as add_in};
 
 pub(crate) fn has(mask: u64, k: u8) -> bool
+    requires { k < 64 }
     ensures { result ≡ has_in mask k }
 {
-    k < 64 && (mask >> k) & 1 == 1
+    (mask >> k) & 1 == 1
 }
 
 pub(crate) fn with(mask: u64, k: u8) -> u64
