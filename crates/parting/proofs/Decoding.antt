@@ -1,8 +1,8 @@
 -- Decoding a sheet into its transitions.
-use Rattle.std.proofs.Common.{◌≡◌, ℕ, suc, ◌+◌, ◌*◌, ◌<◌, ◌≤◌, false, List, [], ◌∷◌, ◌++◌, map, length, get_or, take, drop, set, is_some, Some, None, Option, sym, refl, ap, ◌∙◌, ⊎_elim, arith}
+use Rattle.std.proofs.Common.{◌≡◌, ℕ, suc, ◌+◌, ◌*◌, ◌<◌, ◌≤◌, false, List, [], ◌∷◌, ◌++◌, map, length, get_or, drop, is_some, Some, None, Option, sym, refl, ap, ◌∙◌, ⊎_elim, arith, length-append}
 use Rattle.std.specs.Option.{option_map}
 use Rattle.std.proofs.ByRecursion.{All-get_or}
-use Rattle.std.proofs.lemmas.List.{append_assoc, append-nil, at_drop_more, at_drop_all, length-map, take_more_set, map_push, get_or_past}
+use Rattle.std.proofs.lemmas.List.{append_assoc, append-nil, at_drop_more, at_drop_all, length-map, map_push, get_or_past}
 use Rattle.std.proofs.lemmas.Bool.{cases_lt, cond-true, cond-false, lt-ltb, le-ltb}
 use Rattle.sheet.specs.declared.branch.Branch.{Branch}
 use Rattle.sheet.specs.Encode.{body}
@@ -40,33 +40,35 @@ body_handed sh r n e = ⊎_elim
     (cases_lt n (length sh.states))
 
 -- a state's branches, one after the other
-pub record Decoding (place : Branch → Place) (before : List Place) (all left : List Branch) (slots : List Transition) (at count : ℕ) : Type 0 where
-  pub written : map place_of (take at slots) ++ map place left ≡ before ++ map place all
-  pub counted : at + length left ≡ count + length all
+pub record Decoding (place : Branch → Place) (before : List Place) (all left : List Branch) (done : List Transition) : Type 0 where
+  pub written : map place_of done ++ map place left ≡ before ++ map place all
 
-pub decoding_more : (s A B : ℕ) (before : List Place) (all left rest : List Branch) (b : Branch) (slots : List Transition) (at count : ℕ)
-    → at < length slots → left ≡ b ∷ rest → Decoding (make_place s A B) before all left slots at count
-    → Decoding (make_place s A B) before all rest (set slots at (record { state = s; sender = A; receiver = B; branch = b })) (at + 1) count
-decoding_more s A B before all left rest b slots at count h e d =
+-- there is room for each branch that is left
+pub decoding_room : (place : Branch → Place) (before : List Place) (all left rest : List Branch) (b : Branch) (done : List Transition)
+    → left ≡ b ∷ rest → Decoding place before all left done → length before + length (map place all) ≤ 512 → length done < 512
+decoding_room place before all left rest b done e d h =
+    let w : map place_of done ++ map place (b ∷ rest) ≡ before ++ map place all = rw e at d.written in
+    omega (arith, ap length w, length-append (map place_of done) (map place (b ∷ rest)), length-append before (map place all), length-map done place_of)
+
+pub decoding_more : (s A B : ℕ) (before : List Place) (all left rest : List Branch) (b : Branch) (done after : List Transition)
+    → left ≡ b ∷ rest → after ≡ done ++ record { state = s; sender = A; receiver = B; branch = b } ∷ [] → Decoding (make_place s A B) before all left done
+    → Decoding (make_place s A B) before all rest after
+decoding_more s A B before all left rest b done after e pushed d =
     let t : Transition = record { state = s; sender = A; receiver = B; branch = b } in
-    let w : map place_of (take at slots) ++ map (make_place s A B) (b ∷ rest) ≡ before ++ map (make_place s A B) all = rw e at d.written in
-    let n : at + length (b ∷ rest) ≡ count + length all = rw e at d.counted in
+    let w : map place_of done ++ map (make_place s A B) (b ∷ rest) ≡ before ++ map (make_place s A B) all = rw e at d.written in
     record {
       written =
-          ap (λ l. map place_of l ++ map (make_place s A B) rest) (take_more_set slots at t h)
-          ∙ ap (λ l. l ++ map (make_place s A B) rest) (map_push place_of (take at slots) t)
-          ∙ append_assoc (map place_of (take at slots)) (place_of t ∷ []) (map (make_place s A B) rest)
+          ap (λ l. map place_of l ++ map (make_place s A B) rest) pushed
+          ∙ ap (λ l. l ++ map (make_place s A B) rest) (map_push place_of done t)
+          ∙ append_assoc (map place_of done) (place_of t ∷ []) (map (make_place s A B) rest)
           ∙ w;
-      counted = omega (arith, n);
     }
 
-pub decoding_all : (place : Branch → Place) (before : List Place) (all left : List Branch) (slots : List Transition) (at count : ℕ)
-    → left ≡ [] → Decoding place before all left slots at count
-    → (map place_of (take at slots) ≡ before ++ map place all) × (at ≡ count + length (map place all))
-decoding_all place before all left slots at count e d =
-    let w : map place_of (take at slots) ++ [] ≡ before ++ map place all = rw e at d.written in
-    let n : at + 0 ≡ count + length all = rw e at d.counted in
-    (sym (append-nil (map place_of (take at slots))) ∙ w, omega (arith, n, length-map all place))
+pub decoding_all : (place : Branch → Place) (before : List Place) (all left : List Branch) (done : List Transition)
+    → left ≡ [] → Decoding place before all left done → map place_of done ≡ before ++ map place all
+decoding_all place before all left done e d =
+    let w : map place_of done ++ [] ≡ before ++ map place all = rw e at d.written in
+    sym (append-nil (map place_of done)) ∙ w
 
 -- the states, one after the other
 few_branches : (sh : Sheet) (s : ℕ) (x : State) → GoodState sh x → length (places_of s x) ≤ 8
@@ -81,25 +83,28 @@ places_more xs s h =
     let e : suc s ≡ s + 1 = omega arith in
     at_drop_more (places_from s) xs s ended h ∙ ap (λ k. places_of s (get_or xs s ended) ++ places_from k (drop (s + 1) xs)) e
 
-pub record Decoded (xs : List State) (slots : List Transition) (count s : ℕ) : Type 0 where
-  pub written : map place_of (take count slots) ++ places_from s (drop s xs) ≡ places_from 0 xs
-  pub bound : count ≤ 8 * s
+pub record Decoded (xs : List State) (done : List Transition) (s : ℕ) : Type 0 where
+  pub written : map place_of done ++ places_from s (drop s xs) ≡ places_from 0 xs
+  pub bound : length done ≤ 8 * s
 
-pub decoded_more : (xs : List State) (slots after : List Transition) (count r s : ℕ) → s < length xs → length (places_of s (get_or xs s ended)) ≤ 8
-    → map place_of (take r after) ≡ map place_of (take count slots) ++ places_of s (get_or xs s ended) → r ≡ count + length (places_of s (get_or xs s ended))
-    → Decoded xs slots count s → Decoded xs after r (s + 1)
-decoded_more xs slots after count r s h few w n d = record {
+pub decoded_none : (xs : List State) (done : List Transition) → done ≡ [] → Decoded xs done 0
+decoded_none xs done e = record { written = ap (λ l. map place_of l ++ places_from 0 xs) e; bound = omega (arith, ap length e) }
+
+pub decoded_more : (xs : List State) (done after : List Transition) (s : ℕ) → s < length xs → length (places_of s (get_or xs s ended)) ≤ 8
+    → map place_of after ≡ map place_of done ++ places_of s (get_or xs s ended)
+    → Decoded xs done s → Decoded xs after (s + 1)
+decoded_more xs done after s h few w d = record {
   written =
       ap (λ l. l ++ places_from (s + 1) (drop (s + 1) xs)) w
-      ∙ append_assoc (map place_of (take count slots)) (places_of s (get_or xs s ended)) (places_from (s + 1) (drop (s + 1) xs))
-      ∙ ap (λ l. map place_of (take count slots) ++ l) (sym (places_more xs s h))
+      ∙ append_assoc (map place_of done) (places_of s (get_or xs s ended)) (places_from (s + 1) (drop (s + 1) xs))
+      ∙ ap (λ l. map place_of done ++ l) (sym (places_more xs s h))
       ∙ d.written;
-  bound = omega (arith, d.bound);
+  bound = omega (arith, d.bound, ap length w, length-map after place_of, length-map done place_of, length-append (map place_of done) (places_of s (get_or xs s ended)));
 }
 
-pub decoded_all : (xs : List State) (slots : List Transition) (count s : ℕ) → length xs ≤ s → Decoded xs slots count s → map place_of (take count slots) ≡ places_from 0 xs
-decoded_all xs slots count s h d =
-    sym (append-nil (map place_of (take count slots))) ∙ ap (λ l. map place_of (take count slots) ++ l) (sym (at_drop_all (places_from s) xs s h)) ∙ d.written
+pub decoded_all : (xs : List State) (done : List Transition) (s : ℕ) → length xs ≤ s → Decoded xs done s → map place_of done ≡ places_from 0 xs
+decoded_all xs done s h d =
+    sym (append-nil (map place_of done)) ∙ ap (λ l. map place_of done ++ l) (sym (at_drop_all (places_from s) xs s h)) ∙ d.written
 
 -- a sheet that has been read is valid
 none_from_test : {X : Type 0} (o : Option X) → is_some o ≡ false → o ≡ None

@@ -1,6 +1,6 @@
 -- Roles, one after the other.
-use Rattle.std.proofs.Common.{◌≡◌, ℕ, suc, ◌+◌, ◌-◌, ◌<◌, ◌≤◌, ◌⊎◌, List, length, get_or, set, Some, None, sym, ap, ◌∙◌, subst, inl, inr, arith}
-use Rattle.std.proofs.lemmas.List.{get_or-set_same, get_or-set_other}
+use Rattle.std.proofs.Common.{◌≡◌, ℕ, suc, ◌+◌, ◌-◌, ◌<◌, ◌≤◌, ◌⊎◌, List, [], ◌∷◌, ◌++◌, length, get_or, Some, None, sym, ap, ◌∙◌, subst, inl, inr, arith}
+use Rattle.std.proofs.lemmas.List.{get_or_append_left, get_or_push}
 use Rattle.std.proofs.lemmas.Bool.{cases_eq}
 use Rattle.sheet.specs.Model.{Sheet}
 use Rattle.sheet.specs.Valid.{Valid}
@@ -36,13 +36,13 @@ module _ (sh : Sheet) where
   abbrev pub Tabled : ℕ → Part → Type 0
   Tabled m part = Parted (view_of m (places sh)) m (length sh.labels) part
 
-  pub tabled_more : (parts : List Part) (i : ℕ) (part : Part) → i < length parts → Tabled i part → ((m : ℕ) → m < i → (d : Part) → Tabled m (get_or parts m d))
-      → (m : ℕ) → m < i + 1 → (d : Part) → Tabled m (get_or (set parts i part) m d)
-  tabled_more parts i part h t below m l d = go (cases_eq m i)
+  pub tabled_more : (parts : List Part) (i : ℕ) (part : Part) → length parts ≡ i → Tabled i part → ((m : ℕ) → m < i → (d : Part) → Tabled m (get_or parts m d))
+      → (m : ℕ) → m < i + 1 → (d : Part) → Tabled m (get_or (parts ++ part ∷ []) m d)
+  tabled_more parts i part n t below m l d = go (cases_eq m i)
     where
-      go : (m ≡ i) ⊎ (m ≡ i → ⊥) → Tabled m (get_or (set parts i part) m d)
-      go (inl q) = subst (λ n. Tabled n (get_or (set parts i part) n d)) (sym q) (subst (Tabled i) (sym (get_or-set_same parts i part d h)) t)
-      go (inr n) = subst (Tabled m) (sym (get_or-set_other parts i m part d n)) (below m (omega arith) d)
+      go : (m ≡ i) ⊎ (m ≡ i → ⊥) → Tabled m (get_or (parts ++ part ∷ []) m d)
+      go (inl q) = subst (λ k. Tabled k (get_or (parts ++ part ∷ []) k d)) (sym q) (subst (Tabled i) (sym (get_or_push parts part d i n)) t)
+      go (inr u) = subst (Tabled m) (sym (get_or_append_left parts (part ∷ []) d m (omega arith))) (below m (omega arith) d)
 
   pub tabled_part : Valid sh → (m : ℕ) (part : Part) → Tabled m part → HasPart sh m
   tabled_part valid m part t = has_part sh valid m t.found (accepted sh valid m t.found t.are)

@@ -6,7 +6,7 @@ use Rattle.parting.specs.declared.local.Part.{Part}
 
 -- the parts of its roles
 abbrev pub parts_in : Accepted → List Part
-parts_in a = take a.counts.roles a.parts
+parts_in a = a.parts.items
 
 -- the sets that were found
 abbrev pub sets_in : Part → List LocalSet

@@ -1,5 +1,5 @@
 -- Computed: a role's part, or its fault; and the first fault of all roles.
-use Rattle.std.specs.Prelude.{◌≡◌, ℕ, zero, suc, ◌+◌, List, length, Some, None, Option, Result, MatchResult}
+use Rattle.std.specs.Prelude.{◌≡◌, ℕ, zero, suc, ◌+◌, ◌<◌, List, length, Some, None, Option, Result, MatchResult, slice_index_or}
 use Rattle.sheet.specs.Model.{Sheet}
 use Rattle.parting.specs.declared.fault.PartFault.{PartFault}
 use Rattle.parting.specs.declared.local.Part.{Part}
@@ -15,6 +15,11 @@ pub record Parted (v : View) (role labels : ℕ) (part : Part) : Type 0 where
 
 abbrev pub PartIn : View → ℕ → ℕ → Result Part PartFault → Type 0
 PartIn v role labels r = MatchResult r (Parted v role labels) (λ f. family_of role v labels ≡ stopped f)
+
+-- each role has its part
+pub record EachParted (sh : Sheet) (parts : List Part) : Type 0 where
+  pub count : length parts ≡ length sh.roles
+  pub each : (m : ℕ) → m < length sh.roles → (d : Part) → Parted (view_of m (places sh)) m (length sh.labels) (slice_index_or parts m d)
 
 -- a role's sets in a sheet
 abbrev pub family : Sheet → ℕ → Found

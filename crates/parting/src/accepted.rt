@@ -1,8 +1,9 @@
 //! A sheet that has been accepted.
 
-ghost use Rattle.std.specs.Prelude.{◌≤◌};
+ghost use Rattle.std.specs.Prelude.{◌≡◌, ◌≤◌, length};
 
 use crate::local::Part;
+use arrayvec::ArrayVec;
 use sheet::counts::Counts;
 
 /// A sheet that has been accepted: its counts and each role's part, in tables of its own.
@@ -10,6 +11,7 @@ use sheet::counts::Counts;
 #[derive(Drop)]
 pub struct Accepted {
     pub(crate) counts: Counts,
-    pub(crate) parts: [Part; 6],
+    pub(crate) parts: ArrayVec<Part, 6>,
     ghost few: { counts.roles ≤ 6 },
+    ghost each: { length parts.items ≡ counts.roles },
 }

@@ -1,6 +1,6 @@
 //! The sheet decoded once: its transitions, states rising and then labels rising.
 
-ghost use Rattle.std.specs.Prelude.{◌≡◌, ℕ, ◌+◌, ◌≤◌, ◌++◌, map, length, take, slice_index_or};
+ghost use Rattle.std.specs.Prelude.{◌≡◌, ℕ, ◌+◌, ◌≤◌, ◌++◌, map, length, slice_index_or};
 ghost use Rattle.sheet.specs.Decode.{state_of};
 ghost use Rattle.sheet.specs.Encode.{body as body_read};
 ghost use Rattle.sheet.specs.Model.{ended};
@@ -8,10 +8,12 @@ ghost use Rattle.reading.specs.Reads.{sheet_of};
 ghost use Rattle.parting.specs.Graph.{body_in};
 ghost use Rattle.parting.specs.View.{place_of, places_of, places};
 
+use crate::collect::MOST;
 use crate::transition::Transition;
+use arrayvec::ArrayVec;
 use reading::piece::{Kind, Piece};
 use reading::read_sheet::ReadSheet;
-use reading::states::{split_branch, split_state};
+use reading::states::{Branches, split_state};
 
 // The bytes of a piece that is a state; nothing of any other.
 fn body_of(piece: Option<Piece<'_>>) -> &[u8]
@@ -30,39 +32,32 @@ fn state_body(sheet: &ReadSheet, state: u8) -> &[u8]
     body_of(sheet.piece(Kind::State, state as usize))
 }
 
-// Writes a state's transitions after the first `count` slots, and answers how many slots are then taken.
-fn decode_state(body: &[u8], state: u8, count: usize, slots: &mut [Transition]) -> usize
-    requires { count + length (places_of state (state_of body.now)) ≤ length slots.old }
-    ensures value { map place_of (take result slots.new) ≡ map place_of (take count slots.old) ++ places_of state (state_of body.now) }
-    ensures count { result ≡ count + length (places_of state (state_of body.now)) }
+// Adds a state's transitions.
+fn decode_state(body: &[u8], state: u8, transitions: &mut ArrayVec<Transition, MOST>)
+    requires { length transitions.old.items + length (places_of state (state_of body.now)) ≤ 512 }
+    ensures { map place_of transitions.new.items ≡ map place_of transitions.old.items ++ places_of state (state_of body.now) }
 {
     let Some(exchange) = split_state(body) else {
-        return count;
+        return;
     };
-    let mut left = exchange.branches;
-    let mut at = count;
-    while let Some((branch, rest)) = split_branch(left) {
-        slots[at] = Transition {
+    for branch in Branches::new(exchange.branches) {
+        transitions.push(Transition {
             state,
             sender: exchange.sender,
             receiver: exchange.receiver,
             branch,
-        };
-        at += 1;
-        left = rest;
+        });
     }
-    at
 }
 
-// Writes all transitions of a sheet to the front of the slots, and answers how many they are.
-pub(crate) fn decode(sheet: &ReadSheet, slots: &mut [Transition]) -> usize
-    requires { 512 ≤ length slots.old }
-    ensures value { map place_of (take result slots.new) ≡ places (sheet_of sheet.now) }
-    ensures bound { result ≤ 512 }
+// All transitions of a sheet.
+pub(crate) fn decode(sheet: &ReadSheet) -> ArrayVec<Transition, MOST>
+    ensures value { map place_of result.items ≡ places (sheet_of sheet.now) }
+    ensures bound { length result.items ≤ 512 }
 {
-    let mut count = 0;
+    let mut transitions = ArrayVec::new();
     for state in 0..sheet.counts().states {
-        count = decode_state(state_body(sheet, state), state, count, slots);
+        decode_state(state_body(sheet, state), state, &mut transitions);
     }
-    count
+    transitions
 }

@@ -13,13 +13,7 @@ impl Accepted {
     pub fn parts(&self) -> &[Part]
         ensures { result.now ≡ parts_in self.now }
     {
-        let parts = &self.parts[..];
-        let roles = self.counts.roles as usize;
-        if roles < parts.len() {
-            &parts[..roles]
-        } else {
-            parts
-        }
+        &self.parts
     }
 }
 
@@ -28,12 +22,7 @@ impl Part {
     pub fn found(&self) -> &[LocalSet]
         ensures { result.now ≡ sets_in self.now }
     {
-        let sets = &self.sets[..];
-        if self.count < sets.len() {
-            &sets[..self.count]
-        } else {
-            sets
-        }
+        &self.sets[..self.count.min(self.sets.len())]
     }
 }
 

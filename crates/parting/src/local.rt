@@ -1,8 +1,9 @@
 //! A role's local protocol: its sets of states, and what it does in each.
 
 /// What a role does in a set: nothing more, or send to one partner, or receive from one.
-#[derive(Clone, Copy)]
+#[derive(Clone, Copy, Default)]
 pub enum LocalKind {
+    #[default]
     Finished,
     Sending { partner: u8 },
     Receiving { partner: u8 },
@@ -17,7 +18,7 @@ pub struct Move {
 }
 
 /// A set of states that the role cannot tell apart, what it does there, and by label how it goes on.
-#[derive(Clone, Copy)]
+#[derive(Clone, Copy, Default)]
 pub struct LocalSet {
     pub states: u64,
     pub kind: LocalKind,
@@ -25,7 +26,7 @@ pub struct LocalSet {
 }
 
 /// A role's local protocol: its sets, in the order in which they are found; the first is the one in which it starts.
-#[derive(Clone, Copy)]
+#[derive(Clone, Copy, Default)]
 pub struct Part {
     pub sets: [LocalSet; 32],
     pub count: usize,

@@ -18,11 +18,8 @@ impl Accepted {
 
     /// A role's local protocol, or none where the sheet has no such role.
     pub fn part(&self, role: usize) -> Option<&Part>
-        ensures { option_map (λ x. x.now) result ≡ (if nat_lt role self.now.counts.roles then Some (slice_index_or self.now.parts role no_part) else None) }
+        ensures { option_map (λ x. x.now) result ≡ (if nat_lt role self.now.counts.roles then Some (slice_index_or self.now.parts.items role no_part) else None) }
     {
-        if role >= self.counts.roles as usize {
-            return None;
-        }
-        Some(&self.parts[role])
+        self.parts.get(role)
     }
 }

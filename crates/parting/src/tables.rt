@@ -62,27 +62,12 @@ fn local_set(view: &View, found: &[u64], mask: u64) -> LocalSet
     }
 }
 
-const NO_SET: LocalSet = LocalSet {
-    states: 0,
-    kind: LocalKind::Finished,
-    moves: [None; 32],
-};
-
-pub(crate) fn no_part() -> Part
-    ensures { length result.sets ≡ 32 }
-{
-    Part {
-        sets: [NO_SET; 32],
-        count: 0,
-    }
-}
-
 // The table of the sets found.
 pub(crate) fn table(view: &View, sets: Sets) -> Part
     requires { (sets.count ≤ 32) × (length sets.masks ≡ 32) }
     ensures { Table (seen view.now) (found_in sets) result }
 {
-    let mut part = no_part();
+    let mut part = Part::default();
     part.count = sets.count;
     for i in 0..sets.count {
         part.sets[i] = local_set(view, &sets.masks[..sets.count], sets.masks[i]);

@@ -42,6 +42,6 @@ module _ (sh : Sheet) (accepted : Accepted) (is : IsOf sh accepted) (opening : �
     sheet = is;
     depth_kept = kept;
     shallow = shallow;
-    numbers = λ m l. subst (λ (r : Record). r.set < (get_or accepted.parts m no_part).count) (sym (at_first m l)) (is.parts.local m l no_part).some;
+    numbers = λ m l. subst (λ (r : Record). r.set < (get_or accepted.parts.items m no_part).count) (sym (at_first m l)) (is.parts.local m l no_part).some;
     stands = (keeping book sh is.valid (accepted_steady sh is.parted) opening depth).opens (monitor_of accepted inner) (opened nothing latest);
   }

@@ -65,7 +65,7 @@ module _ (sh : Sheet) (book : Book) (opening depth : ℕ) (es : List Event) (acc
   number = (record_of inner m).set
 
   abbrev part : Part
-  part = get_or accepted.parts m no_part
+  part = get_or accepted.parts.items m no_part
 
   abbrev here : LocalSet
   here = set_at accepted m number

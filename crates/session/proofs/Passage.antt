@@ -90,12 +90,12 @@ module _ (sh : Sheet) (book : Book) (opening depth : ℕ) (es : List Event) (acc
       stands : Stands sh book opening depth (es ++ (e ∷ [])) τ
       stands = keeps.goes_on es σ τ w.stands e passes changes
 
-      numbered : (m : ℕ) → m < length sh.roles → (record_of new m).set < (get_or accepted.parts m no_part).count
+      numbered : (m : ℕ) → m < length sh.roles → (record_of new m).set < (get_or accepted.parts.items m no_part).count
       numbered m k = go (cases_eq m e.role)
         where
-          go : (m ≡ e.role) ⊎ (m ≡ e.role → ⊥) → (record_of new m).set < (get_or accepted.parts m no_part).count
-          go (inl q) = subst (λ n. (record_of new n).set < (get_or accepted.parts n no_part).count) (sym q) (subst (λ r. r.set < (get_or accepted.parts e.role no_part).count) (sym own_record) f.leads.next)
-          go (inr q) = subst (λ r. r.set < (get_or accepted.parts m no_part).count) (sym (other_record m q)) (w.numbers m k)
+          go : (m ≡ e.role) ⊎ (m ≡ e.role → ⊥) → (record_of new m).set < (get_or accepted.parts.items m no_part).count
+          go (inl q) = subst (λ n. (record_of new n).set < (get_or accepted.parts.items n no_part).count) (sym q) (subst (λ r. r.set < (get_or accepted.parts.items e.role no_part).count) (sym own_record) f.leads.next)
+          go (inr q) = subst (λ r. r.set < (get_or accepted.parts.items m no_part).count) (sym (other_record m q)) (w.numbers m k)
 
       pub watches_on : Watches sh book opening depth (es ++ (e ∷ [])) accepted new
       watches_on = record { sheet = w.sheet; depth_kept = l.depth ∙ w.depth_kept; shallow = w.shallow; numbers = numbered; stands = stands }

@@ -48,7 +48,7 @@ module _ (sh : Sheet) (book : Book) (opening depth : ℕ) (es : List Event) (acc
 
   module _ (m : ℕ) (known : m < length sh.roles) where
     abbrev pub part : Part
-    part = get_or accepted.parts m no_part
+    part = get_or accepted.parts.items m no_part
 
     abbrev pub number : ℕ
     number = (record_of inner m).set

@@ -23,7 +23,7 @@ record_of inner m = slice_index_or inner.records m no_record
 
 -- set i in the part of role m
 abbrev pub set_at : Accepted → ℕ → ℕ → LocalSet
-set_at accepted m i = slice_index_or (get_or accepted.parts m no_part).sets i no_set
+set_at accepted m i = slice_index_or (get_or accepted.parts.items m no_part).sets i no_set
 
 -- each role's set is the one that its record numbers, its clock was reset at its record's tick, and channels and latest
 -- tick are as they are kept

@@ -24,5 +24,5 @@ pub record Watches (sh : Sheet) (book : Book) (opening depth : ℕ) (es : List E
   pub sheet : IsOf sh accepted
   pub depth_kept : inner.depth ≡ depth
   pub shallow : depth ≤ 8
-  pub numbers : (m : ℕ) → m < length sh.roles → (record_of inner m).set < (slice_index_or accepted.parts m no_part).count
+  pub numbers : (m : ℕ) → m < length sh.roles → (record_of inner m).set < (slice_index_or accepted.parts.items m no_part).count
   pub stands : Stands sh book opening depth es (monitor_of accepted inner)

@@ -3,7 +3,7 @@
 /// One way on from a state: the label that is sent, the state that follows, the time rows that hold
 /// for sending and for receiving (255 for any time), and whose clocks are reset (1 the sender's on
 /// sending, 2 the receiver's on receiving, 3 both).
-#[derive(Clone, Copy, PartialEq, Eq, Debug)]
+#[derive(Clone, Copy, Default, PartialEq, Eq, Debug)]
 pub struct Branch {
     pub label: u8,
     pub next: u8,

@@ -71,5 +71,5 @@ in_table part t = record {
 in_part : (part : Part) → Parted (view_of 0 (places oven)) 0 3 part → ThreeSets part
 in_part part p = in_table part (subst (λ (xs : List ℕ). Table (view_of 0 (places oven)) xs part) (sets_same p.found (1 ∷ 2 ∷ 4 ∷ []) (sym p.are ∙ main_family)) p.table)
 
-pub main_sets : (a : Accepted) → PartsOf oven a → ThreeSets (get_or a.parts 0 no_part)
-main_sets a parts = in_part (get_or a.parts 0 no_part) (parts.found 0 (omega arith) no_part)
+pub main_sets : (a : Accepted) → PartsOf oven a → ThreeSets (get_or a.parts.items 0 no_part)
+main_sets a parts = in_part (get_or a.parts.items 0 no_part) (parts.found 0 (omega arith) no_part)

@@ -53,7 +53,7 @@ pub record WorkedCases : Type 0 where
   -- the oven sheet is valid, and is accepted
   pub oven_accepted : Valid oven × CanBeParted oven × (part_fault oven ≡ None)
   -- MAIN's sets in it are {0}, {1} and {2}
-  pub main_sets : (a : Accepted) → PartsOf oven a → ThreeSets (slice_index_or a.parts 0 no_part)
+  pub main_sets : (a : Accepted) → PartsOf oven a → ThreeSets (slice_index_or a.parts.items 0 no_part)
   -- the second event that is put to it: OVEN takes HEAT at 106, when its clock is at 6, and is stopped with 47 at role 1, label 0
   pub second_event : Stops asked (event 1 1 0 0 106) 47 1 0
   -- the sixth: MAIN takes FAULT at 130, and HOT is the oldest; it is stopped with 45 at role 0, label 2

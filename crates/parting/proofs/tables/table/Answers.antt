@@ -1,4 +1,4 @@
-use Rattle.std.proofs.Common.{◌≡◌, ℕ, ◌+◌, ◌<◌, ◌⊎◌, List, length, get_or, set, sym, refl, ◌∙◌, subst, inl, inr, arith, length-set}
+use Rattle.std.proofs.Common.{◌≡◌, ℕ, ◌+◌, ◌<◌, ◌⊎◌, List, length, get_or, set, sym, refl, ◌∙◌, subst, inl, inr, arith, rules, length-set}
 use Rattle.std.proofs.lemmas.List.{get_or-set_same, get_or-set_other, get_or-take, length-take-le}
 use Rattle.std.proofs.lemmas.Bool.{cases_eq}
 use Rattle.parting.specs.declared.local.LocalSet.{LocalSet}
@@ -18,7 +18,7 @@ one_more v found table i s h e below k l d = go (cases_eq k i)
     go (inr n) = subst (Entry v found (get_or found k 0)) (sym (get_or-set_other table i k s d n)) (below k (omega arith) d)
 
 pub loop-i-init : goal.loop-i-init
-loop-i-init c = (c.no_part-part.ensures, refl, λ k h. absurd (omega arith))
+loop-i-init c = (search rules, refl, λ k h. absurd (omega arith))
 
 pub loop-i-preserved : goal.loop-i-preserved
 loop-i-preserved c =

@@ -1,0 +1,86 @@
+use Rattle.std.proofs.Common.{◌≡◌, ◌<◌, ◌≤◌, ◌+◌, List, map, length, get_or, sym, ap, ◌∙◌, subst, arith}
+use Rattle.std.proofs.lemmas.Result.{err_from_is_err_and}
+use Rattle.std.proofs.lemmas.List.{length_push}
+use Rattle.reading.specs.Reads.{sheet_of}
+use Rattle.protocol.specs.Places.{Place}
+use Rattle.parting.specs.declared.local.Part.{Part}
+use Rattle.parting.specs.Bounds.{SmallPlaces}
+use Rattle.parting.specs.Family.{view_of, family_of, stopped}
+use Rattle.parting.specs.Parts.{Parted, family}
+use Rattle.parting.specs.View.{places, place_of}
+use Rattle.parting.proofs.Bounding.{small_places_lem}
+use Rattle.parting.proofs.Decoding.{sheet_valid}
+use Rattle.parting.proofs.Roles.{Tabled, faults_more, faults_stop, faults_all, faults_start, tabled_more, stopped_refused}
+use Rattle.parting.proofs.part.parts_of.Goals as goal
+
+pub loop-role-init : goal.loop-role-init
+loop-role-init c = record {
+  counted = ap length c.new-parts.ensures;
+  unfaulted = faults_start (sheet_of c.args.sheet.now);
+  tabled = λ m h. absurd (omega arith);
+}
+
+pub role_part-requires : goal.role_part-requires
+role_part-requires c =
+    let listed = c.as_slice.ensures.value in
+    record {
+      transitions_len_bound = omega (arith, ap length listed, c.decode-transitions.ensures.bound);
+      small_places = subst SmallPlaces (sym (ap (map place_of) listed ∙ c.decode-transitions.ensures.value)) (small_places_lem (sheet_of c.args.sheet.now) (sheet_valid c.args.sheet.now));
+    }
+
+pub push-requires : goal.push-requires
+push-requires c =
+    (omega arith, omega (arith, ap (λ k. k.roles) c.counts-counts.ensures.value, (sheet_valid c.args.sheet.now).role_count.1, c.loop-role.invariant.counted, c.loop-role-test.true))
+
+pub loop-role-preserved : goal.loop-role-preserved
+loop-role-preserved c =
+    let sh = sheet_of c.args.sheet.now in
+    let l = c.loop-role in
+    let part = c.in_ok-part.part in
+    let labels = ap (λ k. k.labels) c.counts-counts.ensures.value in
+    let roles = ap (λ k. k.roles) c.counts-counts.ensures.value in
+    let listed = ap (map place_of) c.as_slice.ensures.value ∙ c.decode-transitions.ensures.value in
+    let t : Tabled sh l.role part =
+    subst (λ n. Parted (view_of l.role (places sh)) l.role n part) labels
+    (subst (λ (ps : List Place). Parted (view_of l.role ps) l.role c.counts-counts.result.labels part) listed c.in_ok-part.ensures) in
+    let more = tabled_more sh l.parts.items l.role part l.invariant.counted t l.invariant.tabled in
+    record {
+      counted = ap length c.push.ensures.items ∙ length_push l.parts.items part ∙ ap (λ n. n + 1) l.invariant.counted;
+      unfaulted = sym (faults_more sh l.role (length sh.roles) t.found (omega (arith, roles, c.loop-role-test.true)) t.are) ∙ l.invariant.unfaulted;
+      tabled = λ m h d. subst (λ (ps : List Part). Tabled sh m (get_or ps m d)) (sym c.push.ensures.items) (more m h d);
+    }
+
+pub returns-in_err-part : goal.returns-in_err-part
+returns-in_err-part c =
+    let s = c.args.sheet.now in
+    let sh = sheet_of s in
+    let l = c.loop-role in
+    let f = c.in_err-part.field-0.0 in
+    let labels = ap (λ k. k.labels) c.counts-counts.ensures.value in
+    let roles = ap (λ k. k.roles) c.counts-counts.ensures.value in
+    let listed = ap (map place_of) c.as_slice.ensures.value ∙ c.decode-transitions.ensures.value in
+    let within : l.role < length sh.roles = omega (arith, roles, c.loop-role-test.true) in
+    let e : family sh l.role ≡ stopped f =
+    ap (λ n. family_of l.role (view_of l.role (places sh)) n) (sym labels)
+    ∙ ap (λ (ps : List Place). family_of l.role (view_of l.role ps) c.counts-counts.result.labels) (sym listed)
+    ∙ c.in_err-part.ensures in
+    let p = err_from_is_err_and c.from_residual.result c.from_residual.ensures.1 in
+    rw (p.1, p.2) (record {
+      fault = sym (faults_stop sh l.role (length sh.roles) f within e) ∙ l.invariant.unfaulted;
+      parts = stopped_refused sh (sheet_valid s) l.role f within e;
+    })
+
+pub returns : goal.returns
+returns c =
+    let s = c.args.sheet.now in
+    let sh = sheet_of s in
+    let l = c.loop-role in
+    let roles = ap (λ k. k.roles) c.counts-counts.ensures.value in
+    let reached : length sh.roles ≤ l.role = omega (arith, roles, c.loop-role-test.false) in
+    record {
+      fault = sym (faults_all sh l.role (length sh.roles) reached) ∙ l.invariant.unfaulted;
+      parts = record {
+        count = omega (arith, l.invariant.counted, roles, reached, l.auto.role-end);
+        each = λ m h d. l.invariant.tabled m (omega arith) d;
+      };
+    }
