@@ -32,20 +32,6 @@ fn put_move(text: &mut Text, sheet: &ReadSheet, label: usize, step: Move) -> Res
     writeln!(text, " {time}, {clock} its clock, then set {next}")
 }
 
-fn put_moves_of(
-    text: &mut Text,
-    sheet: &ReadSheet,
-    label: usize,
-    step: Option<Move>,
-) -> Result<(), AllocError>
-    ensures { Adds text.old text.new result (move_lines (sheet_of sheet.now) label step) }
-{
-    match step {
-        Some(step) => put_move(text, sheet, label, step),
-        None => Ok(()),
-    }
-}
-
 // Every label with which the module goes on.
 pub(crate) fn put_moves(
     text: &mut Text,
@@ -54,8 +40,10 @@ pub(crate) fn put_moves(
 ) -> Result<(), AllocError>
     ensures { Adds text.old text.new result (numbered (move_lines (sheet_of sheet.now)) 0 moves.now) }
 {
-    for label in 0..moves.len() {
-        put_moves_of(text, sheet, label, moves[label])?;
+    for (label, step) in moves.iter().enumerate() {
+        if let Some(step) = step {
+            put_move(text, sheet, label, *step)?;
+        }
     }
     Ok(())
 }

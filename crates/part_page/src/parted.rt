@@ -22,6 +22,7 @@ fn put_module(text: &mut Text, sheet: &ReadSheet, role: usize) -> Result<(), All
     writeln!(text)
 }
 
+#[tactic(auto, unfolding(crate::specs::Parts::part_text))]
 fn put_part(text: &mut Text, sheet: &ReadSheet, role: usize, part: &Part) -> Result<(), AllocError>
     ensures { Adds text.old text.new result (part_text (sheet_of sheet.now) role part.now) }
 {
@@ -30,12 +31,12 @@ fn put_part(text: &mut Text, sheet: &ReadSheet, role: usize, part: &Part) -> Res
 }
 
 /// Puts the parts of all modules: each module's name, and its sets with how it goes on from each.
+#[tactic(auto, unfolding(crate::specs::Parts::part_lines))]
 pub fn put_parts(text: &mut Text, sheet: &ReadSheet, accepted: &Accepted) -> Result<(), AllocError>
     ensures { Adds text.old text.new result (part_lines (sheet_of sheet.now) accepted.now) }
 {
-    let parts = accepted.parts();
-    for role in 0..parts.len() {
-        put_part(text, sheet, role, &parts[role])?;
+    for (role, part) in accepted.parts().iter().enumerate() {
+        put_part(text, sheet, role, part)?;
     }
     Ok(())
 }

@@ -22,22 +22,14 @@ fn put_head(text: &mut Text, number: usize) -> Result<(), AllocError>
     write!(text, "  set {number}, states")
 }
 
-fn put_member(text: &mut Text, set: &LocalSet, state: u8) -> Result<(), AllocError>
-    requires { state < 64 }
-    ensures { Adds text.old text.new result (member_of set.now.states state) }
-{
-    if set.contains(state) {
-        return write!(text, " {state}");
-    }
-    Ok(())
-}
-
 // The states of a set, each after a space.
 fn put_members(text: &mut Text, set: &LocalSet) -> Result<(), AllocError>
     ensures { Adds text.old text.new result (states_from set.now.states 0 64) }
 {
     for state in 0..64u8 {
-        put_member(text, set, state)?;
+        if set.contains(state) {
+            write!(text, " {state}")?;
+        }
     }
     Ok(())
 }
@@ -61,6 +53,7 @@ fn put_partner(text: &mut Text, sheet: &ReadSheet, way: &str, partner: u8) -> Re
     writeln!(text)
 }
 
+#[tactic(auto, unfolding(crate::specs::Parts::set_lines))]
 fn put_set(
     text: &mut Text,
     sheet: &ReadSheet,
@@ -83,8 +76,8 @@ pub(crate) fn put_sets(
 ) -> Result<(), AllocError>
     ensures { Adds text.old text.new result (numbered (set_lines (sheet_of sheet.now)) 0 sets.now) }
 {
-    for number in 0..sets.len() {
-        put_set(text, sheet, number, &sets[number])?;
+    for (number, set) in sets.iter().enumerate() {
+        put_set(text, sheet, number, set)?;
     }
     Ok(())
 }

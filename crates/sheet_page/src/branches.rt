@@ -10,7 +10,7 @@ use crate::parts::part;
 use crate::times::{Time, clocks};
 use reading::piece::Kind;
 use reading::read_sheet::ReadSheet;
-use reading::states::split_branch;
+use reading::states::Branches;
 use sheet::branch::Branch;
 use std::alloc::AllocError;
 use text::growing::Text;
@@ -40,10 +40,8 @@ pub(crate) fn put_branches(
 ) -> Result<(), AllocError>
     ensures { Adds text.old text.new result (flat_map (branch_line (sheet_of sheet.now)) (branches_in bytes.now)) }
 {
-    let mut left = bytes;
-    while let Some((branch, rest)) = split_branch(left) {
+    for branch in Branches::new(bytes) {
         put_branch(text, sheet, branch)?;
-        left = rest;
     }
     Ok(())
 }

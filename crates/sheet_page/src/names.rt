@@ -12,6 +12,7 @@ use reading::read_sheet::ReadSheet;
 use std::alloc::AllocError;
 use text::growing::Text;
 
+#[tactic(auto, unfolding(crate::specs::Lines::name_line))]
 fn put_name(text: &mut Text, heading: &str, number: usize, name: &[u8]) -> Result<(), AllocError>
     ensures { Adds text.old text.new result (name_line heading.now number name.now) }
 {

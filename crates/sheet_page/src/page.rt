@@ -29,6 +29,7 @@ fn put_counts(text: &mut Text, counts: Counts) -> Result<(), AllocError>
 }
 
 /// Puts the page of a sheet: its counts, its names with their numbers, its states with their branches.
+#[tactic(auto, unfolding(crate::specs::Page::page))]
 pub fn put_page(text: &mut Text, sheet: &ReadSheet) -> Result<(), AllocError>
     ensures { Adds text.old text.new result (page_of (sheet_of sheet.now)) }
 {

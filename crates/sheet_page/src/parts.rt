@@ -24,9 +24,11 @@ pub fn part(sheet: &ReadSheet, kind: Kind, number: usize) -> &[u8]
     ensures { result.now ≡ piece_of (sheet_of sheet.now) kind number }
 {
     match sheet.piece(kind, number) {
-        Some(Piece::Role { name, .. }) => name,
-        Some(Piece::Label { name, .. }) => name,
-        Some(Piece::State { body, .. }) => body,
+        Some(
+            Piece::Role { name: bytes, .. }
+            | Piece::Label { name: bytes, .. }
+            | Piece::State { body: bytes, .. },
+        ) => bytes,
         None => b"",
     }
 }

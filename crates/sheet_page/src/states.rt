@@ -21,6 +21,7 @@ fn put_end(text: &mut Text, number: usize) -> Result<(), AllocError>
 }
 
 // Who sends to whom.
+#[tactic(auto, unfolding(crate::specs::Lines::exchange_line))]
 fn put_exchange(
     text: &mut Text,
     sheet: &ReadSheet,
@@ -38,6 +39,7 @@ fn put_exchange(
 }
 
 // A state by its bytes.
+#[tactic(auto, unfolding(crate::specs::Page::state_lines))]
 fn put_state(
     text: &mut Text,
     sheet: &ReadSheet,

@@ -7,5 +7,5 @@ use Rattle.part_page.proofs.parted.put_parts.Given as goal
 
 abbrev pub invariant-loop-role : goal.invariant-loop-role
 invariant-loop-role l =
-    said l.text ++ numbered (part_text (sheet_of l.sheet)) l.role (drop l.role l.parts)
-    ≡ said l.initial.text ++ numbered (part_text (sheet_of l.sheet)) 0 l.parts
+    said l.text ++ numbered (part_text (sheet_of l.sheet)) l.role (drop l.role l.part-items)
+    ≡ said l.initial.text ++ numbered (part_text (sheet_of l.sheet)) 0 l.part-items

@@ -1,6 +1,7 @@
-use Rattle.std.proofs.Common.{◌≡◌, ◌++◌, length}
+use Rattle.std.proofs.Common.{◌≡◌, ◌++◌}
 use Rattle.std.specs.List.{flat_map}
 use Rattle.sheet.specs.Decode.{branches}
+use Rattle.reading.specs.Branching.{branches_left}
 use Rattle.reading.specs.Reads.{sheet_of}
 use Rattle.sheet_page.specs.Lines.{branch_line}
 use Rattle.text.specs.Growing.{said}
@@ -8,8 +9,5 @@ use Rattle.sheet_page.proofs.branches.put_branches.Given as goal
 
 abbrev pub invariant-loop-branch : goal.invariant-loop-branch
 invariant-loop-branch l =
-    said l.text ++ flat_map (branch_line (sheet_of l.sheet)) (branches l.left)
+    said l.text ++ flat_map (branch_line (sheet_of l.sheet)) (branches_left l.branch-iterator)
     ≡ said l.initial.text ++ flat_map (branch_line (sheet_of l.sheet)) (branches l.bytes)
-
-abbrev pub decreases-loop-branch : goal.decreases-loop-branch
-decreases-loop-branch l = length l.left
