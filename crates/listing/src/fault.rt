@@ -5,6 +5,7 @@ ghost use Rattle.listing.specs.declared.fault.ListFault.TheVariants.{Reading, Pa
 ghost use Rattle.listing.specs.Listed.{stop_for};
 
 use parting::fault::PartFault;
+use parting::refused::Refused;
 use sheet::fault::ReadFault;
 use stops::stop::Stop;
 
@@ -32,6 +33,14 @@ impl From<PartFault> for ListFault {
 
     fn from(fault: PartFault) -> ListFault {
         ListFault::Parting(fault)
+    }
+}
+
+impl From<Refused> for ListFault {
+    ghost from_gives = { λ refused r. r ≡ Parting refused.fault };
+
+    fn from(refused: Refused) -> ListFault {
+        ListFault::from(refused.fault)
     }
 }
 

@@ -28,6 +28,7 @@ use text::stop_line::put_stop;
 pub const MOST_INPUT: usize = 65_535;
 
 // The sheet of an input, or why there is none.
+#[tactic(auto, unfolding(crate::specs::Listed::input_fault))]
 fn examine(input: &[u8]) -> Result<ReadSheet, ListFault>
     ensures judged { fault_of result ≡ input_fault input.now }
     ensures value { IfOk result (λ sheet. bytes_of sheet ≡ input.now) }
@@ -39,14 +40,12 @@ fn examine(input: &[u8]) -> Result<ReadSheet, ListFault>
 }
 
 // The accepted sheet of an input, or why there is none.
+#[tactic(auto, unfolding(crate::specs::Listed::parted_fault))]
 fn parted(input: &[u8]) -> Result<Accepted, ListFault>
     ensures judged { fault_of result ≡ parted_fault input.now }
     ensures value { IfOk result (λ a. PartsOf (model input.now) a) }
 {
-    match part(examine(input)?) {
-        Ok(accepted) => Ok(accepted),
-        Err(refused) => Err(ListFault::from(refused.fault)),
-    }
+    Ok(part(examine(input)?)?)
 }
 
 // What follows the page: the parts, or the stop.
