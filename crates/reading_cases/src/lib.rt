@@ -19,30 +19,16 @@ const OVEN: [u8; 77] = [
     0, // past the end
 ];
 
-/// How many of the bytes are given, which of them are changed first, and the stop's number and place;
-/// number 0 where the sheet is good.
-pub struct Damage {
-    given: usize,
-    changes: &'static [(usize, u8)],
-    number: u8,
-    place: usize,
-}
-
-fn answer(bytes: &[u8]) -> (u8, usize) {
-    match read(bytes) {
-        Ok(_) => (0, 0),
-        Err(fault) => {
-            let stop = Stop::from(fault);
-            (stop.number, stop.first)
-        }
-    }
+// What reading answers: nothing, or the stop.
+fn answer(bytes: &[u8]) -> Result<(), Stop> {
+    read(bytes).map(|_| ()).map_err(Stop::from)
 }
 
 fn changed(changes: &[(usize, u8)]) -> [u8; 77] {
     let mut sheet = OVEN;
     for (at, value) in changes {
-        if *at < 77 {
-            sheet[*at] = *value;
+        if let Some(byte) = sheet.get_mut(*at) {
+            *byte = *value;
         }
     }
     sheet
@@ -55,302 +41,155 @@ mod tests {
     use std::process::Abort;
     use std::test::Fail;
 
-    fn stops_as_said(rt: &impl Abort, damages: &[Damage]) {
+    /// How many of the bytes are given, which of them are changed first, and what reading answers.
+    #[derive(Clone, Copy)]
+    struct Damage {
+        given: usize,
+        changes: &'static [(usize, u8)],
+        answer: Result<(), Stop>,
+    }
+
+    fn good(changes: &'static [(usize, u8)]) -> Damage {
+        Damage {
+            given: 76,
+            changes,
+            answer: Ok(()),
+        }
+    }
+
+    fn stopped(given: usize, changes: &'static [(usize, u8)], number: u8, place: usize) -> Damage {
+        Damage {
+            given,
+            changes,
+            answer: Err(Stop::new(number, place, 0)),
+        }
+    }
+
+    fn answers_as_said(rt: &impl Abort, damages: &[Damage]) {
         for damage in damages {
             let sheet = changed(damage.changes);
             assert!(rt; damage.given <= 77);
-            assert_eq!(rt;
-                answer(&sheet[0..damage.given]),
-                (damage.number, damage.place)
-            );
+            assert_eq!(rt; answer(&sheet[0..damage.given]), damage.answer);
         }
     }
 
     #[test]
     fn good_sheet(rt: HostRuntime) {
-        stops_as_said(
+        answers_as_said(
             &rt,
             &[
                 // the sheet itself
-                Damage {
-                    given: 76,
-                    changes: &[],
-                    number: 0,
-                    place: 0,
-                },
+                good(&[]),
                 // a loop
-                Damage {
-                    given: 76,
-                    changes: &[(59, 0), (60, 0)],
-                    number: 0,
-                    place: 0,
-                },
+                good(&[(59, 0), (60, 0)]),
                 // a label may have the name of a role
-                Damage {
-                    given: 76,
-                    changes: &[(45, 77), (46, 65), (47, 73), (48, 78)],
-                    number: 0,
-                    place: 0,
-                },
+                good(&[(45, 77), (46, 65), (47, 73), (48, 78)]),
                 // the highest row
-                Damage {
-                    given: 76,
-                    changes: &[(61, 0), (62, 1)],
-                    number: 0,
-                    place: 0,
-                },
+                good(&[(61, 0), (62, 1)]),
                 // the ends of the printable range
-                Damage {
-                    given: 76,
-                    changes: &[(37, 33), (38, 126)],
-                    number: 0,
-                    place: 0,
-                },
+                good(&[(37, 33), (38, 126)]),
             ],
         );
     }
 
     #[test]
     fn short(rt: HostRuntime) {
-        stops_as_said(
+        answers_as_said(
             &rt,
             &[
                 // nothing
-                Damage {
-                    given: 0,
-                    changes: &[],
-                    number: 1,
-                    place: 0,
-                },
+                stopped(0, &[], 1, 0),
                 // no whole header
-                Damage {
-                    given: 4,
-                    changes: &[],
-                    number: 1,
-                    place: 4,
-                },
+                stopped(4, &[], 1, 4),
                 // one byte of the pairs is missing
-                Damage {
-                    given: 36,
-                    changes: &[],
-                    number: 1,
-                    place: 36,
-                },
+                stopped(36, &[], 1, 36),
             ],
         );
     }
 
     #[test]
     fn edition(rt: HostRuntime) {
-        stops_as_said(
+        answers_as_said(
             &rt,
-            &[
-                Damage {
-                    given: 76,
-                    changes: &[(0, 0)],
-                    number: 2,
-                    place: 0,
-                },
-                Damage {
-                    given: 76,
-                    changes: &[(0, 2)],
-                    number: 2,
-                    place: 0,
-                },
-            ],
+            &[stopped(76, &[(0, 0)], 2, 0), stopped(76, &[(0, 2)], 2, 0)],
         );
     }
 
     #[test]
     fn count(rt: HostRuntime) {
-        stops_as_said(
+        answers_as_said(
             &rt,
             &[
-                Damage {
-                    given: 76,
-                    changes: &[(1, 1)],
-                    number: 3,
-                    place: 1,
-                },
-                Damage {
-                    given: 76,
-                    changes: &[(1, 7)],
-                    number: 3,
-                    place: 1,
-                },
-                Damage {
-                    given: 76,
-                    changes: &[(2, 0)],
-                    number: 3,
-                    place: 2,
-                },
-                Damage {
-                    given: 76,
-                    changes: &[(2, 33)],
-                    number: 3,
-                    place: 2,
-                },
-                Damage {
-                    given: 76,
-                    changes: &[(3, 0)],
-                    number: 3,
-                    place: 3,
-                },
-                Damage {
-                    given: 76,
-                    changes: &[(3, 65)],
-                    number: 3,
-                    place: 3,
-                },
-                Damage {
-                    given: 76,
-                    changes: &[(4, 65)],
-                    number: 3,
-                    place: 4,
-                },
+                stopped(76, &[(1, 1)], 3, 1),
+                stopped(76, &[(1, 7)], 3, 1),
+                stopped(76, &[(2, 0)], 3, 2),
+                stopped(76, &[(2, 33)], 3, 2),
+                stopped(76, &[(3, 0)], 3, 3),
+                stopped(76, &[(3, 65)], 3, 3),
+                stopped(76, &[(4, 65)], 3, 4),
                 // the first of two
-                Damage {
-                    given: 76,
-                    changes: &[(2, 0), (4, 65)],
-                    number: 3,
-                    place: 2,
-                },
+                stopped(76, &[(2, 0), (4, 65)], 3, 2),
             ],
         );
     }
 
     #[test]
     fn pair(rt: HostRuntime) {
-        stops_as_said(
+        answers_as_said(
             &rt,
             &[
                 // a first piece that does not begin right after the pairs
-                Damage {
-                    given: 76,
-                    changes: &[(6, 38)],
-                    number: 4,
-                    place: 0,
-                },
+                stopped(76, &[(6, 38)], 4, 0),
                 // the high byte of an offset
-                Damage {
-                    given: 76,
-                    changes: &[(5, 1)],
-                    number: 4,
-                    place: 0,
-                },
+                stopped(76, &[(5, 1)], 4, 0),
                 // a name of no bytes
-                Damage {
-                    given: 76,
-                    changes: &[(8, 0)],
-                    number: 4,
-                    place: 0,
-                },
+                stopped(76, &[(8, 0)], 4, 0),
                 // a name of 13 bytes
-                Damage {
-                    given: 76,
-                    changes: &[(8, 13)],
-                    number: 4,
-                    place: 0,
-                },
+                stopped(76, &[(8, 13)], 4, 0),
                 // a gap
-                Damage {
-                    given: 76,
-                    changes: &[(14, 46)],
-                    number: 4,
-                    place: 2,
-                },
+                stopped(76, &[(14, 46)], 4, 2),
                 // a state of 6 bytes
-                Damage {
-                    given: 76,
-                    changes: &[(28, 6)],
-                    number: 4,
-                    place: 5,
-                },
+                stopped(76, &[(28, 6)], 4, 5),
                 // a state without branches
-                Damage {
-                    given: 76,
-                    changes: &[(28, 2)],
-                    number: 4,
-                    place: 5,
-                },
+                stopped(76, &[(28, 2)], 4, 5),
                 // a state of 9 branches
-                Damage {
-                    given: 76,
-                    changes: &[(28, 47)],
-                    number: 4,
-                    place: 5,
-                },
+                stopped(76, &[(28, 47)], 4, 5),
                 // an end past the sheet
-                Damage {
-                    given: 76,
-                    changes: &[(35, 0), (36, 7)],
-                    number: 4,
-                    place: 7,
-                },
+                stopped(76, &[(35, 0), (36, 7)], 4, 7),
                 // a sheet cut short
-                Damage {
-                    given: 75,
-                    changes: &[],
-                    number: 4,
-                    place: 6,
-                },
+                stopped(75, &[], 4, 6),
                 // a byte left over
-                Damage {
-                    given: 77,
-                    changes: &[],
-                    number: 4,
-                    place: 8,
-                },
+                stopped(77, &[], 4, 8),
             ],
         );
     }
 
     #[test]
     fn byte_of_a_name(rt: HostRuntime) {
-        stops_as_said(
+        answers_as_said(
             &rt,
             &[
                 // the first byte of the first name
-                Damage {
-                    given: 76,
-                    changes: &[(37, 32)],
-                    number: 5,
-                    place: 37,
-                },
+                stopped(76, &[(37, 32)], 5, 37),
                 // the last byte of a role
-                Damage {
-                    given: 76,
-                    changes: &[(44, 127)],
-                    number: 5,
-                    place: 44,
-                },
+                stopped(76, &[(44, 127)], 5, 44),
                 // the last byte of a label
-                Damage {
-                    given: 76,
-                    changes: &[(56, 0)],
-                    number: 5,
-                    place: 56,
-                },
+                stopped(76, &[(56, 0)], 5, 56),
             ],
         );
     }
 
     #[test]
     fn twice(rt: HostRuntime) {
-        stops_as_said(
+        answers_as_said(
             &rt,
             &[
                 // the second role
-                Damage {
-                    given: 76,
-                    changes: &[(41, 77), (42, 65), (43, 73), (44, 78)],
-                    number: 6,
-                    place: 1,
-                },
+                stopped(76, &[(41, 77), (42, 65), (43, 73), (44, 78)], 6, 1),
                 // the second label
-                Damage {
-                    given: 76,
-                    changes: &[
+                stopped(
+                    76,
+                    &[
                         (20, 4),
                         (22, 53),
                         (24, 4),
@@ -359,153 +198,68 @@ mod tests {
                         (51, 65),
                         (52, 84),
                     ],
-                    number: 6,
-                    place: 3,
-                },
+                    6,
+                    3,
+                ),
             ],
         );
     }
 
     #[test]
     fn state(rt: HostRuntime) {
-        stops_as_said(
+        answers_as_said(
             &rt,
             &[
                 // sender
-                Damage {
-                    given: 76,
-                    changes: &[(57, 2)],
-                    number: 7,
-                    place: 57,
-                },
+                stopped(76, &[(57, 2)], 7, 57),
                 // receiver
-                Damage {
-                    given: 76,
-                    changes: &[(58, 2)],
-                    number: 7,
-                    place: 58,
-                },
+                stopped(76, &[(58, 2)], 7, 58),
                 // the sender again
-                Damage {
-                    given: 76,
-                    changes: &[(58, 0)],
-                    number: 7,
-                    place: 58,
-                },
+                stopped(76, &[(58, 0)], 7, 58),
                 // label
-                Damage {
-                    given: 76,
-                    changes: &[(59, 3)],
-                    number: 7,
-                    place: 59,
-                },
+                stopped(76, &[(59, 3)], 7, 59),
                 // next state
-                Damage {
-                    given: 76,
-                    changes: &[(60, 3)],
-                    number: 7,
-                    place: 60,
-                },
+                stopped(76, &[(60, 3)], 7, 60),
                 // send row
-                Damage {
-                    given: 76,
-                    changes: &[(61, 2)],
-                    number: 7,
-                    place: 61,
-                },
+                stopped(76, &[(61, 2)], 7, 61),
                 // receive row
-                Damage {
-                    given: 76,
-                    changes: &[(62, 254)],
-                    number: 7,
-                    place: 62,
-                },
+                stopped(76, &[(62, 254)], 7, 62),
                 // resets
-                Damage {
-                    given: 76,
-                    changes: &[(63, 4)],
-                    number: 7,
-                    place: 63,
-                },
+                stopped(76, &[(63, 4)], 7, 63),
                 // a label that does not rise
-                Damage {
-                    given: 76,
-                    changes: &[(71, 1)],
-                    number: 7,
-                    place: 71,
-                },
+                stopped(76, &[(71, 1)], 7, 71),
                 // the last byte
-                Damage {
-                    given: 76,
-                    changes: &[(75, 4)],
-                    number: 7,
-                    place: 75,
-                },
+                stopped(76, &[(75, 4)], 7, 75),
             ],
         );
     }
 
     #[test]
     fn order_of_stops(rt: HostRuntime) {
-        stops_as_said(
+        answers_as_said(
             &rt,
             &[
                 // edition before count
-                Damage {
-                    given: 76,
-                    changes: &[(0, 2), (1, 9)],
-                    number: 2,
-                    place: 0,
-                },
+                stopped(76, &[(0, 2), (1, 9)], 2, 0),
                 // count before the shortness of the pairs
-                Damage {
-                    given: 5,
-                    changes: &[(4, 65)],
-                    number: 3,
-                    place: 4,
-                },
+                stopped(5, &[(4, 65)], 3, 4),
                 // and that after it
-                Damage {
-                    given: 5,
-                    changes: &[],
-                    number: 1,
-                    place: 5,
-                },
+                stopped(5, &[], 1, 5),
                 // a name used twice before a bad byte in a later name
-                Damage {
-                    given: 76,
-                    changes: &[(41, 77), (42, 65), (43, 73), (44, 78), (45, 32)],
-                    number: 6,
-                    place: 1,
-                },
+                stopped(
+                    76,
+                    &[(41, 77), (42, 65), (43, 73), (44, 78), (45, 32)],
+                    6,
+                    1,
+                ),
                 // a bad byte before sameness in one name
-                Damage {
-                    given: 76,
-                    changes: &[(41, 77), (42, 65), (43, 73), (44, 32)],
-                    number: 5,
-                    place: 44,
-                },
+                stopped(76, &[(41, 77), (42, 65), (43, 73), (44, 32)], 5, 44),
                 // a wrong length before everything in names and states
-                Damage {
-                    given: 76,
-                    changes: &[(28, 6), (37, 32), (57, 9)],
-                    number: 4,
-                    place: 5,
-                },
+                stopped(76, &[(28, 6), (37, 32), (57, 9)], 4, 5),
                 // names before states
-                Damage {
-                    given: 76,
-                    changes: &[(56, 0), (57, 9)],
-                    number: 5,
-                    place: 56,
-                },
+                stopped(76, &[(56, 0), (57, 9)], 5, 56),
                 // a wrong pair before bytes left over
-                Damage {
-                    given: 77,
-                    changes: &[(36, 1)],
-                    number: 4,
-                    place: 7,
-                },
+                stopped(77, &[(36, 1)], 4, 7),
             ],
         );
     }
