@@ -1,5 +1,5 @@
 -- The events in bytes.
-use Rattle.std.proofs.Common.{◌≡◌, ℕ, ◌%◌, ◌<◌, ◌≤◌, List, [], ◌∷◌, ◌++◌, length, get_or, drop, sym, refl, ap, ◌∙◌, subst, arith}
+use Rattle.std.proofs.Common.{◌≡◌, ℕ, ◌%◌, ◌<◌, List, [], ◌∷◌, ◌++◌, length, refl, ap, ◌∙◌, arith}
 use Rattle.std.specs.List.{flat_map, AllByRecursion}
 use Rattle.events.specs.declared.event.Event.{Event}
 use Rattle.input.specs.Bytes.{event_bytes, Ranged}
@@ -49,21 +49,3 @@ events_are (r ∷ s ∷ p ∷ l ∷ a ∷ b ∷ c ∷ d ∷ rest) h w =
     let shorter : length rest % 8 ≡ 0 = omega arith in
     let more = events_are rest h.1.1.1.1.1.1.1.1 shorter in
     ((first_ranged r s p l a b c d front, more.0), ap (λ w. w ++ flat_map event_bytes (events_in rest)) (first_bytes r s p l a b c d front) ∙ ap (λ w. r ∷ s ∷ p ∷ l ∷ a ∷ b ∷ c ∷ d ∷ w) more.1)
-
--- the first event of eight bytes and more
-pub event_first : (bytes rest : List ℕ) (e : Event) → 8 ≤ length bytes → ((i : ℕ) → get_or bytes i 0 < 256) → rest ≡ drop 8 bytes
-    → e ≡ record { role = get_or bytes 0 0; direction = get_or bytes 1 0; partner = get_or bytes 2 0; label = get_or bytes 3 0; tick = tick_of (get_or bytes 4 0) (get_or bytes 5 0) (get_or bytes 6 0) (get_or bytes 7 0) }
-    → Ranged e × (event_bytes e ++ rest ≡ bytes)
-event_first [] rest e h g t is = absurd (omega arith)
-event_first (r ∷ []) rest e h g t is = absurd (omega arith)
-event_first (r ∷ s ∷ []) rest e h g t is = absurd (omega arith)
-event_first (r ∷ s ∷ p ∷ []) rest e h g t is = absurd (omega arith)
-event_first (r ∷ s ∷ p ∷ l ∷ []) rest e h g t is = absurd (omega arith)
-event_first (r ∷ s ∷ p ∷ l ∷ a ∷ []) rest e h g t is = absurd (omega arith)
-event_first (r ∷ s ∷ p ∷ l ∷ a ∷ b ∷ []) rest e h g t is = absurd (omega arith)
-event_first (r ∷ s ∷ p ∷ l ∷ a ∷ b ∷ c ∷ []) rest e h g t is = absurd (omega arith)
-event_first (r ∷ s ∷ p ∷ l ∷ a ∷ b ∷ c ∷ d ∷ more) rest e h g t is =
-    let front : AllByRecursion (λ x. x < 256) (r ∷ s ∷ p ∷ l ∷ a ∷ b ∷ c ∷ d ∷ []) = (g 0, (g 1, (g 2, (g 3, (g 4, (g 5, (g 6, (g 7, tt)))))))) in (
-      subst Ranged (sym is) (first_ranged r s p l a b c d front),
-      ap (λ f. event_bytes f ++ rest) is ∙ ap (λ w. w ++ rest) (first_bytes r s p l a b c d front) ∙ ap (λ w. r ∷ s ∷ p ∷ l ∷ a ∷ b ∷ c ∷ d ∷ w) t,
-    )

@@ -3,13 +3,11 @@ use Rattle.std.proofs.Common.{◌≡◌, ℕ, ◌+◌, ◌*◌, ◌/◌, ◌%◌
 use denote.Ref.{Bor}
 use Rattle.std.specs.Prelude.{MatchOption, ◌≢◌}
 use Rattle.std.specs.List.{IsSplitAt, AllByRecursion}
+use Rattle.std.proofs.lemmas.Nat.{div-add-mod'}
 use Rattle.std.proofs.lemmas.List.{length-append, take_at, drop_at, take-append-drop}
 use Rattle.book_rows.specs.Bytes.{number_of}
 use Rattle.input.specs.Bytes.{four, sized}
 use Rattle.input.specs.Events.{tick_of}
-
-pub two_back : (n : ℕ) → (n / 256) * 256 + n % 256 ≡ n
-two_back n = omega arith
 
 pub four_back : (n : ℕ) → tick_of (n / 65536 / 256) (n / 65536 % 256) (n % 65536 / 256) (n % 65536 % 256) ≡ n
 four_back n = omega arith
@@ -25,7 +23,7 @@ four_is a b c d n p q r s e =
 
 -- what the bytes of a sized list begin with
 pub sized_parts : (bytes x rest : List ℕ) → sized x ++ rest ≡ bytes → (length x ≡ get_or bytes 0 0 * 256 + get_or bytes 1 0) × (x ++ rest ≡ drop 2 bytes)
-sized_parts bytes x rest e = (sym (two_back (length x)) ∙ ap (λ (l : List ℕ). get_or l 0 0 * 256 + get_or l 1 0) e, ap (drop 2) e)
+sized_parts bytes x rest e = (sym (div-add-mod' (length x) 256) ∙ ap (λ (l : List ℕ). get_or l 0 0 * 256 + get_or l 1 0) e, ap (drop 2) e)
 
 pub four_parts : (bytes rest : List ℕ) (n : ℕ) → four n ++ rest ≡ bytes → (n ≡ tick_of (get_or bytes 0 0) (get_or bytes 1 0) (get_or bytes 2 0) (get_or bytes 3 0)) × (rest ≡ drop 4 bytes)
 four_parts bytes rest n e = (sym (four_back n) ∙ ap (λ (l : List ℕ). tick_of (get_or l 0 0) (get_or l 1 0) (get_or l 2 0) (get_or l 3 0)) e, ap (drop 4) e)
