@@ -26,6 +26,7 @@ pub struct Act {
 
 impl Act {
     // Whether both acts are on the same side, with the same partner.
+    #[tactic(auto, using(crate::proofs::Ways::way_eq), unfolding(crate::specs::Judge::is_same_side))]
     pub(crate) fn is_same_side(self, other: Act) -> bool
         ensures { result ≡ is_same_side self other }
     {

@@ -115,6 +115,7 @@ impl Acts {
 }
 
 // What the role does in a transition, if anything.
+#[tactic(auto, using(std::proofs::lemmas::Bool::Decides::nat_tests), unfolding(crate::specs::View::acts_at))]
 fn act_of(role: u8, t: Transition) -> Option<Act>
     ensures { listed result ≡ acts_at role (place_of t) }
 {

@@ -17,6 +17,7 @@ impl Edges {
         ensures value { result ≡ spread_of self.now start }
         ensures silent { (sh : Sheet) (m : ℕ) → self.now ≡ silent_edges m (places sh) → (s : ℕ) → Decides (has_in result s) (Silent sh m (In start) s) }
     {
+        // A loop, since it ends where a pass changes nothing: a chain would carry each mask beside the one before.
         let mut reached = start;
         loop {
             let more = self.pass(reached);

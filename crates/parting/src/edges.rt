@@ -69,6 +69,7 @@ impl Edges {
 }
 
 // The step of a transition in which the role has no part.
+#[tactic(auto, using(std::proofs::lemmas::Bool::Decides::nat_tests), unfolding(crate::specs::View::silent_at))]
 fn silent_edge(role: u8, t: Transition) -> Option<Edge>
     ensures { listed result ≡ silent_at role (place_of t) }
 {

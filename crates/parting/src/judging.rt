@@ -11,6 +11,7 @@ use crate::view::SetView;
 
 impl SetView<'_> {
     // The point that fails first; none where the set is sound.
+    #[tactic(auto, unfolding(crate::specs::Judge::first_failing_point))]
     pub(crate) fn first_failing(&self) -> Option<Point>
         ensures { result ≡ first_failing_point self.now.leading self.now.states self.now.acts }
     {
@@ -33,10 +34,7 @@ impl SetView<'_> {
     fn is_told_if_acting(&self) -> bool
         ensures { result ≡ is_told_if_acting self.now.leading self.now.states self.now.acts }
     {
-        match self.acts.as_slice() {
-            [_, ..] => self.is_told(),
-            [] => true,
-        }
+        self.acts.as_slice().is_empty() || self.is_told()
     }
 
     // Fourth point: every state of the set is one from which the role is led to act.
