@@ -1,8 +1,8 @@
 //! What a role does, in a sheet or in the states of one set.
 
-ghost use Rattle.std.specs.Prelude.{◌≡◌, ℕ, ◌<◌, ◌≤◌, Bool, length, map};
+ghost use Rattle.std.specs.Prelude.{◌≡◌, ℕ, ◌<◌, Bool};
 ghost use Rattle.std.specs.Borrow.{Bor};
-ghost use Rattle.parting.specs.Bounds.{SmallAct, SmallPlaces};
+ghost use Rattle.parting.specs.Bounds.{SmallAct};
 ghost use Rattle.parting.specs.Calls.{ComputesAt};
 ghost use Rattle.parting.specs.Family.{ends as ends_in};
 ghost use Rattle.parting.specs.Judge.{in_set as in_set_of, first_with, labels_of_state};
@@ -14,6 +14,7 @@ use crate::act::{Act, Way};
 use crate::collect::{MOST, collect};
 use crate::masks::{has, with};
 use crate::transition::Transition;
+use crate::transitions::Transitions;
 use arrayvec::ArrayVec;
 use std::marker::Model;
 
@@ -37,13 +38,11 @@ impl Model for Acts {
 
 impl Acts {
     // All that the role does.
-    pub(crate) fn of(transitions: &[Transition], role: u8) -> Acts
-        requires bound { length transitions.now ≤ 512 }
-        requires small_places { SmallPlaces (map place_of transitions.now) }
-        ensures { result ≡ acts_listed role (map place_of transitions.now) }
+    pub(crate) fn of(transitions: &Transitions, role: u8) -> Acts
+        ensures { result ≡ acts_listed role transitions.now }
     {
         Acts {
-            list: collect(transitions, |t| act_of(role, t)),
+            list: collect(transitions.as_slice(), |t| act_of(role, t)),
         }
     }
 

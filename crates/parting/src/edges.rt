@@ -1,7 +1,6 @@
 //! Steps from state to state.
 
-ghost use Rattle.std.specs.Prelude.{◌≡◌, ◌≤◌, length, map};
-ghost use Rattle.parting.specs.Bounds.{SmallPlaces};
+ghost use Rattle.std.specs.Prelude.{◌≡◌, map};
 ghost use Rattle.parting.specs.Lists.{listed};
 ghost use Rattle.parting.specs.Spread.{passed};
 ghost use Rattle.parting.specs.View.{place_of, silent_at, silent_edges, back_edge as back_edge_of};
@@ -10,6 +9,7 @@ use crate::collect::{MOST, collect};
 use crate::edge::Edge;
 use crate::masks::{has, with};
 use crate::transition::Transition;
+use crate::transitions::Transitions;
 use arrayvec::ArrayVec;
 use std::marker::Model;
 
@@ -33,24 +33,20 @@ impl Model for Edges {
 
 impl Edges {
     // The steps in which the role has no part.
-    pub(crate) fn silent(transitions: &[Transition], role: u8) -> Edges
-        requires bound { length transitions.now ≤ 512 }
-        requires small_places { SmallPlaces (map place_of transitions.now) }
-        ensures { result ≡ silent_edges role (map place_of transitions.now) }
+    pub(crate) fn silent(transitions: &Transitions, role: u8) -> Edges
+        ensures { result ≡ silent_edges role transitions.now }
     {
         Edges {
-            list: collect(transitions, |t| silent_edge(role, t)),
+            list: collect(transitions.as_slice(), |t| silent_edge(role, t)),
         }
     }
 
     // All steps, backwards.
-    pub(crate) fn back(transitions: &[Transition]) -> Edges
-        requires bound { length transitions.now ≤ 512 }
-        requires small_places { SmallPlaces (map place_of transitions.now) }
-        ensures { result ≡ map back_edge_of (map place_of transitions.now) }
+    pub(crate) fn back(transitions: &Transitions) -> Edges
+        ensures { result ≡ map back_edge_of transitions.now }
     {
         Edges {
-            list: collect(transitions, |t| Some(back_edge(t))),
+            list: collect(transitions.as_slice(), |t| Some(back_edge(t))),
         }
     }
 

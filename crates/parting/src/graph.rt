@@ -10,6 +10,7 @@ ghost use Rattle.parting.specs.View.{place_of, places_of, places};
 
 use crate::collect::MOST;
 use crate::transition::Transition;
+use crate::transitions::Transitions;
 use arrayvec::ArrayVec;
 use reading::piece::{Kind, Piece};
 use reading::read_sheet::ReadSheet;
@@ -51,13 +52,12 @@ fn decode_state(body: &[u8], state: u8, transitions: &mut ArrayVec<Transition, M
 }
 
 // All transitions of a sheet.
-pub(crate) fn decode(sheet: &ReadSheet) -> ArrayVec<Transition, MOST>
-    ensures value { map place_of result.items ≡ places (sheet_of sheet.now) }
-    ensures bound { length result.items ≤ 512 }
+pub(crate) fn decode(sheet: &ReadSheet) -> Transitions
+    ensures { result ≡ places (sheet_of sheet.now) }
 {
     let mut transitions = ArrayVec::new();
     for state in 0..sheet.counts().states {
         decode_state(state_body(sheet, state), state, &mut transitions);
     }
-    transitions
+    Transitions { list: transitions }
 }

@@ -25,4 +25,5 @@ pub mod refused;
 mod role;
 mod tables;
 mod transition;
+mod transitions;
 mod view;

@@ -43,7 +43,7 @@ fn parts_of(sheet: &ReadSheet) -> Result<ArrayVec<Part, 6>, PartFault>
     let transitions = decode(sheet);
     let mut parts = ArrayVec::new();
     for role in 0..counts.roles {
-        let part = role_part(transitions.as_slice(), role, counts.labels)?;
+        let part = role_part(&transitions, role, counts.labels)?;
         parts.push(part);
     }
     Ok(parts)

@@ -1,16 +1,14 @@
 //! One role's view of a sheet: what it does itself, and the steps in which it has no part.
 
-ghost use Rattle.std.specs.Prelude.{◌≡◌, ◌≤◌, length, map};
-ghost use Rattle.parting.specs.Bounds.{SmallPlaces};
+ghost use Rattle.std.specs.Prelude.{◌≡◌};
 ghost use Rattle.parting.specs.Family.{view_of, ends};
 ghost use Rattle.parting.specs.Judge.{in_set};
 ghost use Rattle.parting.specs.Seen.{seen};
 ghost use Rattle.parting.specs.Spread.{spread};
-ghost use Rattle.parting.specs.View.{place_of};
 
 use crate::acts::Acts;
 use crate::edges::Edges;
-use crate::transition::Transition;
+use crate::transitions::Transitions;
 
 /// What a role sees of a sheet: what it does itself, the steps in which it has no part, and the states
 /// from which some state in which it acts can be reached.
@@ -31,10 +29,8 @@ pub(crate) struct SetView<'a> {
 }
 
 impl View {
-    pub(crate) fn of(transitions: &[Transition], role: u8) -> View
-        requires bound { length transitions.now ≤ 512 }
-        requires small_places { SmallPlaces (map place_of transitions.now) }
-        ensures { seen result ≡ view_of role (map place_of transitions.now) }
+    pub(crate) fn of(transitions: &Transitions, role: u8) -> View
+        ensures { seen result ≡ view_of role transitions.now }
     {
         let acts = Acts::of(transitions, role);
         let leading = Edges::back(transitions).closure(acts.states());

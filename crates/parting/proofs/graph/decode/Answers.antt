@@ -1,9 +1,11 @@
-use Rattle.std.proofs.Common.{◌≡◌, ◌<◌, ◌++◌, map, length, get_or, ap, ◌∙◌, arith}
+use Rattle.std.proofs.Common.{◌≡◌, ◌<◌, ◌++◌, map, length, get_or, sym, ap, ◌∙◌, subst, arith}
 use Rattle.sheet.specs.Decode.{state_of}
 use Rattle.sheet.specs.Model.{ended}
 use Rattle.sheet.proofs.Bodies.{state_of_body}
 use Rattle.reading.specs.Reads.{sheet_of}
-use Rattle.parting.specs.View.{place_of, places_of}
+use Rattle.parting.specs.Bounds.{SmallPlaces}
+use Rattle.parting.specs.View.{place_of, places_of, places}
+use Rattle.parting.proofs.Bounding.{small_places_lem}
 use Rattle.parting.proofs.Decoding.{decoded_none, decoded_more, decoded_all, few_places, sheet_valid}
 use Rattle.parting.proofs.graph.decode.Goals as goal
 
@@ -32,12 +34,13 @@ loop-state-preserved c =
     (c.decode_state.ensures ∙ ap (λ x. map place_of c.loop-state.transitions.items ++ places_of s x) is)
     c.loop-state.invariant
 
-pub returns : goal.returns
-returns c =
-    let sh = sheet_of c.args.sheet.now in
-    let l = c.loop-state in
+made : (c : goal.After-loop-state) → map place_of c.loop-state.transitions.items ≡ places (sheet_of c.args.sheet.now)
+made c =
     let n = ap (λ k. k.states) c.counts-state-end.ensures.value in
-    record {
-      value = decoded_all sh.states l.transitions.items l.state (omega (arith, n)) l.invariant;
-      bound = omega (arith, l.invariant.bound, n, l.auto.state-end, (sheet_valid c.args.sheet.now).state_count.1);
-    }
+    decoded_all (sheet_of c.args.sheet.now).states c.loop-state.transitions.items c.loop-state.state (omega (arith, n)) c.loop-state.invariant
+
+pub invariant_of-result : goal.invariant_of-result
+invariant_of-result c = subst SmallPlaces (sym (made c)) (small_places_lem (sheet_of c.args.sheet.now) (sheet_valid c.args.sheet.now))
+
+pub returns : goal.returns
+returns c = made c

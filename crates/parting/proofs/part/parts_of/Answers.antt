@@ -1,14 +1,12 @@
-use Rattle.std.proofs.Common.{◌≡◌, ◌<◌, ◌≤◌, ◌+◌, List, map, length, get_or, sym, ap, ◌∙◌, subst, arith}
+use Rattle.std.proofs.Common.{◌≡◌, ◌<◌, ◌≤◌, ◌+◌, List, length, get_or, sym, ap, ◌∙◌, subst, arith}
 use Rattle.std.proofs.lemmas.Result.{err_from_is_err_and}
 use Rattle.std.proofs.lemmas.List.{length_push}
 use Rattle.reading.specs.Reads.{sheet_of}
 use Rattle.protocol.specs.Places.{Place}
 use Rattle.parting.specs.declared.local.Part.{Part}
-use Rattle.parting.specs.Bounds.{SmallPlaces}
 use Rattle.parting.specs.Family.{view_of, family_of, stopped}
 use Rattle.parting.specs.Parts.{Parted, family}
-use Rattle.parting.specs.View.{places, place_of}
-use Rattle.parting.proofs.Bounding.{small_places_lem}
+use Rattle.parting.specs.View.{places}
 use Rattle.parting.proofs.Decoding.{sheet_valid}
 use Rattle.parting.proofs.Roles.{Tabled, faults_more, faults_stop, faults_all, faults_start, tabled_more, stopped_refused}
 use Rattle.parting.proofs.part.parts_of.Goals as goal
@@ -19,14 +17,6 @@ loop-role-init c = record {
   unfaulted = faults_start (sheet_of c.args.sheet.now);
   tabled = λ m h. absurd (omega arith);
 }
-
-pub role_part-requires : goal.role_part-requires
-role_part-requires c =
-    let listed = c.as_slice.ensures.value in
-    record {
-      transitions_len_bound = omega (arith, ap length listed, c.decode-transitions.ensures.bound);
-      small_places = subst SmallPlaces (sym (ap (map place_of) listed ∙ c.decode-transitions.ensures.value)) (small_places_lem (sheet_of c.args.sheet.now) (sheet_valid c.args.sheet.now));
-    }
 
 pub push-requires : goal.push-requires
 push-requires c =
@@ -39,10 +29,9 @@ loop-role-preserved c =
     let part = c.in_ok-part.part in
     let labels = ap (λ k. k.labels) c.counts-counts.ensures.value in
     let roles = ap (λ k. k.roles) c.counts-counts.ensures.value in
-    let listed = ap (map place_of) c.as_slice.ensures.value ∙ c.decode-transitions.ensures.value in
     let t : Tabled sh l.role part =
     subst (λ n. Parted (view_of l.role (places sh)) l.role n part) labels
-    (subst (λ (ps : List Place). Parted (view_of l.role ps) l.role c.counts-counts.result.labels part) listed c.in_ok-part.ensures) in
+    (subst (λ (ps : List Place). Parted (view_of l.role ps) l.role c.counts-counts.result.labels part) c.decode-transitions.ensures c.in_ok-part.ensures) in
     let more = tabled_more sh l.parts.items l.role part l.invariant.counted t l.invariant.tabled in
     record {
       counted = ap length c.push.ensures.items ∙ length_push l.parts.items part ∙ ap (λ n. n + 1) l.invariant.counted;
@@ -58,11 +47,10 @@ returns-in_err-part c =
     let f = c.in_err-part.field-0.0 in
     let labels = ap (λ k. k.labels) c.counts-counts.ensures.value in
     let roles = ap (λ k. k.roles) c.counts-counts.ensures.value in
-    let listed = ap (map place_of) c.as_slice.ensures.value ∙ c.decode-transitions.ensures.value in
     let within : l.role < length sh.roles = omega (arith, roles, c.loop-role-test.true) in
     let e : family sh l.role ≡ stopped f =
     ap (λ n. family_of l.role (view_of l.role (places sh)) n) (sym labels)
-    ∙ ap (λ (ps : List Place). family_of l.role (view_of l.role ps) c.counts-counts.result.labels) (sym listed)
+    ∙ ap (λ (ps : List Place). family_of l.role (view_of l.role ps) c.counts-counts.result.labels) (sym c.decode-transitions.ensures)
     ∙ c.in_err-part.ensures in
     let p = err_from_is_err_and c.from_residual.result c.from_residual.ensures.1 in
     rw (p.1, p.2) (record {

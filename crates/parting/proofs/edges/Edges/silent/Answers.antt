@@ -1,14 +1,18 @@
-use Rattle.std.proofs.Common.{map, sym, subst, ◌∙◌, rules}
-use Rattle.parting.specs.Bounds.{SmallEdges}
-use Rattle.parting.specs.View.{place_of, silent_at}
-use Rattle.parting.proofs.Bounding.{small_silent}
+use Rattle.std.proofs.Common.{◌≡◌, sym, ap, subst, ◌∙◌, rules}
+use Rattle.std.specs.List.{flat_map}
 use Rattle.std.proofs.lemmas.List.Folds.{flat_map-map}
+use Rattle.parting.specs.Bounds.{SmallEdges}
+use Rattle.parting.specs.View.{place_of, silent_at, silent_edges}
+use Rattle.parting.proofs.Bounding.{small_silent}
 use Rattle.parting.proofs.edges.Edges.silent.Goals as goal
 
+made : (c : goal.After-collect) → c.collect.result.items ≡ silent_edges c.args.role c.args.transitions.now
+made c =
+    let f = silent_at c.args.role in
+    c.collect.ensures (λ t. f (place_of t)) (λ x y k. search rules) ∙ sym (flat_map-map f place_of c.as_slice.result.now) ∙ ap (flat_map f) c.as_slice.ensures.places
+
 pub invariant_of-result : goal.invariant_of-result
-invariant_of-result c =
-    let made = c.collect.ensures (λ t. silent_at c.args.role (place_of t)) (λ x y k. search rules) ∙ sym (flat_map-map (silent_at c.args.role) place_of c.args.transitions.now) in
-    subst SmallEdges (sym made) (small_silent c.args.role (map place_of c.args.transitions.now) c.requires.small_places)
+invariant_of-result c = subst SmallEdges (sym (made c)) (small_silent c.args.role c.args.transitions.now c.as_slice.ensures.small)
 
 pub returns : goal.returns
-returns c = c.collect.ensures (λ t. silent_at c.args.role (place_of t)) (λ x y k. search rules) ∙ sym (flat_map-map (silent_at c.args.role) place_of c.args.transitions.now)
+returns c = made c
