@@ -1,9 +1,11 @@
 -- The tests of judging decide the points of soundness.
-use Rattle.std.proofs.Common.{◌≡◌, ℕ, ◌<◌, Bool, true, false, ◌&&◌, eqb, ◌⊎◌, List, [], ◌∷◌, Some, None, Decides, Option, sym, refl, ap, ◌∙◌, subst, inl, inr}
+use Rattle.std.proofs.Common.{◌≡◌, ℕ, ◌<◌, Bool, true, false, ◌&&◌, eqb, ◌⊎◌, List, [], ◌∷◌, length, get_or, Some, None, Decides, Option, sym, refl, ap, ◌∙◌, subst, inl, inr, arith}
 use mathlib.Core.Bool.{beq}
 use mathlib.Core.List.{Memᴰ}
+use Rattle.std.specs.List.{All, list_all, range_with_len}
+use Rattle.std.proofs.lemmas.List.FromFn.{get_or-range_with_len, length-range_with_len}
 use Rattle.std.proofs.lemmas.Bool.{cases_Bool, eq-eqb, eqb-true, or_cases, or_left, or_right, false≢true, both_ways, cond-true, cond-false}
-use Rattle.std.proofs.lemmas.Bool.Decides.{Decides-eqb, Decides-and, Decides-like, Decides-below_and, same_from_decides}
+use Rattle.std.proofs.lemmas.Bool.Decides.{Decides-eqb, Decides-and, Decides-like, Decides-by_and, same_from_decides}
 use Rattle.protocol.specs.Actions as meant
 use Rattle.protocol.specs.Actions.{Action, Timing, turn}
 use Rattle.parting.specs.declared.act.Act.{Act}
@@ -149,11 +151,19 @@ labels_from s xs l h = let r = gathered (λ (a : Act). eqb a.state s) (λ a. a.l
 labels_to : (s : ℕ) (xs : List Act) (x : Act) → Memᴰ x xs → x.state ≡ s → In (labels_of_state s xs) x.label
 labels_to s xs x i e = gather_to (λ (a : Act). eqb a.state s) (λ a. a.label) 0 xs x i (eq-eqb x.state s e)
 
+passing : (test : ℕ → Bool) (xs : List ℕ) → Decides (list_all test xs) (All (λ k. test k ≡ true) xs)
+passing test xs = Decides-by_and test (λ k. test k ≡ true) (list_all test) (λ k. (λ e. e, λ e. e)) refl (λ _ _. refl) xs
+
 pub below_from : (test : ℕ → Bool) (n : ℕ) → every_below test n ≡ true → (k : ℕ) → k < n → test k ≡ true
-below_from test n = (Decides-below_and test (λ k. test k ≡ true) (every_below test) (λ k. (λ e. e, λ e. e)) refl (λ _. refl) n).0
+below_from test n e k h =
+    let at : get_or (range_with_len 0 n) k 0 ≡ k = omega (arith, get_or-range_with_len 0 n k 0 h) in
+    subst (λ j. test j ≡ true) at ((passing test (range_with_len 0 n)).0 e k 0 (omega (arith, h, length-range_with_len 0 n)))
 
 pub below_to : (test : ℕ → Bool) (n : ℕ) → ((k : ℕ) → k < n → test k ≡ true) → every_below test n ≡ true
-below_to test n = (Decides-below_and test (λ k. test k ≡ true) (every_below test) (λ k. (λ e. e, λ e. e)) refl (λ _. refl) n).1
+below_to test n f = (passing test (range_with_len 0 n)).1 (λ k d h.
+    let l : k < n = omega (arith, h, length-range_with_len 0 n) in
+    let at : k ≡ get_or (range_with_len 0 n) k d = omega (arith, get_or-range_with_len 0 n k d l) in
+    subst (λ j. test j ≡ true) at (f k l))
 
 -- the same labels wherever it acts
 no_label : (s : ℕ) (xs : List Act) → labels_of_state s xs ≡ 0 → (x : Act) → Memᴰ x xs → x.state ≡ s → ⊥

@@ -4,7 +4,6 @@ mod Same
 mod Passing
 mod Viewing
 mod Collecting
-mod Tallying
 mod Ways
 mod Blanks
 mod Entering

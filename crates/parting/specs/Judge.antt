@@ -1,7 +1,7 @@
 -- Computed: whether a set is sound, point by point. That each test decides its point is a law.
-use Rattle.std.specs.Prelude.{ℕ, zero, suc, Bool, true, false, cond, not, ◌&&◌, ◌||◌, List, [], ◌∷◌, Some, None, filter, find, Option, ◌==◌, nat_eq}
+use Rattle.std.specs.Prelude.{ℕ, Bool, true, false, cond, not, ◌&&◌, ◌||◌, List, [], ◌∷◌, Some, None, filter, find, Option, ◌==◌, nat_eq}
 use Rattle.std.specs.Bool.{beq}
-use Rattle.std.specs.List.{list_all}
+use Rattle.std.specs.List.{list_all, range_with_len}
 use Rattle.parting.specs.declared.act.Act.{Act}
 use Rattle.parting.specs.declared.act.Way.{Way}
 use Rattle.parting.specs.declared.act.Way.TheVariants.{Sends, Receives}
@@ -15,8 +15,7 @@ in_set mask as' = filter (λ a. has mask a.state) as'
 
 -- the test holds of every number below n
 abbrev pub every_below : (ℕ → Bool) → ℕ → Bool
-every_below test zero = true
-every_below test (suc n) = test n && every_below test n
+every_below test n = list_all test (range_with_len 0 n)
 
 abbrev pub sends : Way → Bool
 sends Sends = true

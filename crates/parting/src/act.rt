@@ -12,7 +12,8 @@ pub enum Way {
 }
 
 /// What a role does in a state: with whom, under which label, held to which time row, whether its own
-/// clock is reset, and the state that follows.
+/// clock is reset, and the state that follows. All are numbers as the sheet has them: a row is the place of a
+/// row in a book, or 255 for any time, and no kind for which an enum would have a name.
 #[derive(Clone, Copy, Default)]
 pub struct Act {
     pub state: u8,

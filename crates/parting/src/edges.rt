@@ -32,7 +32,8 @@ impl Model for Edges {
 }
 
 impl Edges {
-    // The steps in which the role has no part.
+    // The steps in which the role has no part. What this shares with `Acts::of` stands in `collect`: a generic
+    // function in place of both would be a second name for it.
     pub(crate) fn silent(transitions: &Transitions, role: u8) -> Edges
         ensures { result ≡ silent_edges role transitions.now }
     {
