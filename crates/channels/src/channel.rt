@@ -20,6 +20,7 @@ impl Channel {
     ghost use Rattle.channels.specs.Waiting.{waiting, first as oldest_of};
 
     /// A channel in which nothing waits.
+    #[tactic(auto, unfolding(queue::specs::Ring::held))]
     pub(crate) fn empty() -> Channel
         ensures { waiting result ≡ [] }
     {
@@ -30,6 +31,7 @@ impl Channel {
     }
 
     /// How many messages wait.
+    #[tactic(auto, using(queue::proofs::Rings::lengths))]
     pub(crate) fn len(&self) -> usize
         ensures value { result ≡ length (waiting self.now) }
         ensures few { result ≤ 8 }

@@ -128,3 +128,6 @@ module _ {X : Type 0} (s : List X) (f c : ℕ) (x : X) (hf : f ≤ length s - 1)
       let low : f + 0 < length s = omega (arith, some_held) in
       let at : f + 0 ≡ f = omega arith in
       sym (ap (λ l. get_or l 0 x) e) ∙ held_low s f c 0 x some_held low ∙ ap (λ n. get_or s n x) at
+
+-- for `using`, which takes no name with a dash
+pub ruleset lengths = length-held

@@ -8,6 +8,7 @@ use crate::queue::Queue;
 
 impl<'a, T: Copy> Queue<'a, T> {
     /// A queue that holds nothing, over these slots. It takes as many elements as there are slots.
+    #[tactic(auto, unfolding(crate::specs::Ring::held))]
     pub fn new(slots: &'a mut [T]) -> Queue<'a, T>
         ensures slots { slots_of result ≡ slots.old }
         ensures lender { result.slots.ghost_name ≡ slots.entry.ghost_name }
@@ -42,7 +43,7 @@ impl<'a, T: Copy> Queue<'a, T> {
     }
 
     /// The oldest element, which stays where it is.
-    #[tactic(auto, using(crate::proofs::Rings::held_oldest))]
+    #[tactic(auto, using(crate::proofs::Rings::held_oldest, crate::proofs::Rings::held_none))]
     pub fn oldest(&self) -> Option<T>
         ensures { MatchOption result (inside self.now ≡ []) (λ x. inside self.now ≡ x ∷ drop 1 (inside self.now)) }
     {

@@ -14,6 +14,7 @@ impl<'a, T: Copy> Queue<'a, T> {
     }
 
     /// How many elements it holds.
+    #[tactic(auto, using(crate::proofs::Rings::lengths))]
     pub fn len(&self) -> usize
         ensures place { result ≡ self.now.count }
         ensures held { result ≡ length (inside self.now) }
