@@ -1,18 +1,17 @@
 //! The lines that tell a module's sets.
 
-ghost use Rattle.std.specs.Prelude.{◌<◌, [], ◌∷◌};
-ghost use Rattle.reading.specs.Reads.{sheet_of};
+ghost use Rattle.std.specs.Prelude.{[], ◌∷◌};
 ghost use Rattle.text.specs.Lines.{line};
 ghost use Rattle.sheet_page.specs.Lines.{role_name};
 ghost use Rattle.sheet_page.specs.Page.{numbered};
-ghost use Rattle.part_page.specs.Parts.{member_of, states_from, kind_of, set_head, set_lines};
+ghost use Rattle.sheet_page.specs.Telling.{told, Tells};
 ghost use Rattle.text.specs.Growing.{Adds};
+ghost use Rattle.part_page.specs.Parts.{states_from, kind_of, set_head, set_lines};
 
 use crate::moves::put_moves;
 use parting::local::{LocalKind, LocalSet};
 use reading::piece::Kind;
-use reading::read_sheet::ReadSheet;
-use sheet_page::parts::part;
+use sheet_page::page::Page;
 use std::alloc::AllocError;
 use text::growing::Text;
 
@@ -34,50 +33,43 @@ fn put_members(text: &mut Text, set: &LocalSet) -> Result<(), AllocError>
     Ok(())
 }
 
-fn put_kind(text: &mut Text, sheet: &ReadSheet, kind: LocalKind) -> Result<(), AllocError>
-    ensures { Adds text.old text.new result (kind_of (sheet_of sheet.now) kind) }
+fn put_kind(page: &mut Page<'_>, kind: LocalKind) -> Result<(), AllocError>
+    ensures { Tells page.old page.new result (kind_of (told page.old) kind) }
 {
     match kind {
-        LocalKind::Finished => writeln!(text, ": finished"),
-        LocalKind::Sending { partner } => put_partner(text, sheet, ": sends to ", partner),
-        LocalKind::Receiving { partner } => put_partner(text, sheet, ": takes from ", partner),
+        LocalKind::Finished => writeln!(page.text, ": finished"),
+        LocalKind::Sending { partner } => put_partner(page, ": sends to ", partner),
+        LocalKind::Receiving { partner } => put_partner(page, ": takes from ", partner),
     }
 }
 
 // With whom a module exchanges.
-fn put_partner(text: &mut Text, sheet: &ReadSheet, way: &str, partner: u8) -> Result<(), AllocError>
-    ensures { Adds text.old text.new result (line (way.now ∷ role_name (sheet_of sheet.now) partner ∷ [])) }
+fn put_partner(page: &mut Page<'_>, way: &str, partner: u8) -> Result<(), AllocError>
+    ensures { Tells page.old page.new result (line (way.now ∷ role_name (told page.old) partner ∷ [])) }
 {
-    write!(text, "{way}")?;
-    text.put(part(sheet, Kind::Role, partner as usize))?;
-    writeln!(text)
+    write!(page.text, "{way}")?;
+    page.put_piece(Kind::Role, partner as usize)?;
+    writeln!(page.text)
 }
 
 #[tactic(auto, unfolding(crate::specs::Parts::set_lines))]
-fn put_set(
-    text: &mut Text,
-    sheet: &ReadSheet,
-    number: usize,
-    set: &LocalSet,
-) -> Result<(), AllocError>
-    ensures { Adds text.old text.new result (set_lines (sheet_of sheet.now) number set.now) }
+fn put_set(page: &mut Page<'_>, number: usize, set: &LocalSet) -> Result<(), AllocError>
+    ensures { Tells page.old page.new result (set_lines (told page.old) number set.now) }
 {
-    put_head(text, number)?;
-    put_members(text, set)?;
-    put_kind(text, sheet, set.kind)?;
-    put_moves(text, sheet, &set.moves)
+    put_head(page.text, number)?;
+    put_members(page.text, set)?;
+    put_kind(page, set.kind)?;
+    put_moves(page, &set.moves)
 }
 
 // Every set, with its number.
-pub(crate) fn put_sets(
-    text: &mut Text,
-    sheet: &ReadSheet,
-    sets: &[LocalSet],
-) -> Result<(), AllocError>
-    ensures { Adds text.old text.new result (numbered (set_lines (sheet_of sheet.now)) 0 sets.now) }
+// The loops of sets, moves and parts are three lines each: one loop for all would need a trait with a law, or a closure with
+// what its calls add, and an impl or a closure for each.
+pub(crate) fn put_sets(page: &mut Page<'_>, sets: &[LocalSet]) -> Result<(), AllocError>
+    ensures { Tells page.old page.new result (numbered (set_lines (told page.old)) 0 sets.now) }
 {
     for (number, set) in sets.iter().enumerate() {
-        put_set(text, sheet, number, set)?;
+        put_set(page, number, set)?;
     }
     Ok(())
 }

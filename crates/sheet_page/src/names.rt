@@ -22,6 +22,7 @@ impl<'a> Page<'a> {
     }
 
     // Every name of a kind, with its number.
+    // A sheet hands its pieces out by number, and the number is told: an iterator of them would count it a second time.
     pub(crate) fn put_names(&mut self, kind: Kind, heading: &str) -> Result<(), AllocError>
         ensures { Tells self.old self.new result (numbered (name_line heading.now) 0 (pieces_of (told self.old) kind)) }
     {

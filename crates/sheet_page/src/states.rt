@@ -42,7 +42,7 @@ impl<'a> Page<'a> {
         self.put_branches(exchange.branches)
     }
 
-    // Every state, with its number.
+    // Every state, with its number: a loop over numbers, as over those of the names.
     pub(crate) fn put_states(&mut self) -> Result<(), AllocError>
         ensures { Tells self.old self.new result (numbered (state_lines (told self.old)) 0 (told self.old).states) }
     {

@@ -6,6 +6,7 @@ ghost use Rattle.sheet_page.specs.Lines.{time_of, clocks_of};
 use std::fmt;
 
 /// When a time row allows an event; 255 is any time.
+// The byte as branches and moves have it: an enum would be made of it only to be shown, by the same test.
 #[derive(Clone, Copy)]
 pub struct Time {
     pub row: u8,
@@ -25,6 +26,7 @@ impl fmt::Display for Time {
 }
 
 // Whose clocks are reset.
+// A type that shows this would be a struct around the byte with an impl and a contract, in place of one match.
 pub(crate) fn clocks(resets: u8) -> &'static str
     ensures { result.now ≡ clocks_of resets }
 {
