@@ -7,7 +7,6 @@ ghost use Rattle.sheet_page.specs.Telling.{told, Tells};
 ghost use Rattle.reading.specs.Handing.{piece_of};
 
 use crate::page::Page;
-use crate::parts::count_of;
 use reading::piece::Kind;
 use std::alloc::AllocError;
 
@@ -26,7 +25,7 @@ impl<'a> Page<'a> {
     pub(crate) fn put_names(&mut self, kind: Kind, heading: &str) -> Result<(), AllocError>
         ensures { Tells self.old self.new result (numbered (name_line heading.now) 0 (pieces_of (told self.old) kind)) }
     {
-        for number in 0..count_of(self.sheet, kind) {
+        for number in 0..self.sheet.count(kind) {
             self.put_name(kind, heading, number)?;
         }
         Ok(())

@@ -1,23 +1,11 @@
 //! The bytes of a sheet's pieces.
 
 ghost use Rattle.std.specs.Prelude.{◌≡◌};
-ghost use Rattle.reading.specs.Handing.{counts_of, piece_count_of, piece_of};
+ghost use Rattle.reading.specs.Handing.{piece_of};
 ghost use Rattle.reading.specs.Reads.{sheet_of};
 
 use reading::piece::{Kind, Piece};
 use reading::read_sheet::ReadSheet;
-
-// How many pieces of a kind a sheet has.
-pub(crate) fn count_of(sheet: &ReadSheet, kind: Kind) -> usize
-    ensures { result ≡ piece_count_of (counts_of (sheet_of sheet.now)) kind }
-{
-    let counts = sheet.counts();
-    match kind {
-        Kind::Role => counts.roles as usize,
-        Kind::Label => counts.labels as usize,
-        Kind::State => counts.states as usize,
-    }
-}
 
 /// The bytes of the piece of that kind and number; none where the kind has no such number.
 pub fn part(sheet: &ReadSheet, kind: Kind, number: usize) -> &[u8]

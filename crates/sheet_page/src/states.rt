@@ -6,7 +6,7 @@ ghost use Rattle.sheet_page.specs.Page.{numbered, state_lines};
 ghost use Rattle.sheet_page.specs.Telling.{told, Tells};
 
 use crate::page::Page;
-use crate::parts::{count_of, part};
+use crate::parts::part;
 use reading::piece::Kind;
 use reading::states::split_state;
 use std::alloc::AllocError;
@@ -46,7 +46,7 @@ impl<'a> Page<'a> {
     pub(crate) fn put_states(&mut self) -> Result<(), AllocError>
         ensures { Tells self.old self.new result (numbered (state_lines (told self.old)) 0 (told self.old).states) }
     {
-        for number in 0..count_of(self.sheet, Kind::State) {
+        for number in 0..self.sheet.count(Kind::State) {
             self.put_state(number, part(self.sheet, Kind::State, number))?;
         }
         Ok(())

@@ -14,7 +14,7 @@ loop-number-preserved c =
     let kind = c.args.kind in
     let i = c.loop-number.number in
     let tell = name_line c.args.heading.now in
-    let inside : i < piece_count_of (counts_of sh) kind = omega (arith, c.count_of-number-end.ensures, c.loop-number-test.true) in (
+    let inside : i < piece_count_of (counts_of sh) kind = omega (arith, c.count-number-end.ensures, c.loop-number-test.true) in (
       search rules,
       numbered_next tell _ _ _ i (piece_of sh kind i) _ _ (next_piece sh kind i inside)
           (c.in_ok-put_name.ensures.added ∙ ap (λ s. said c.loop-number.self.text.now ++ tell i (piece_of (sheet_of s.now) kind i)) c.loop-number.invariant.0.sheet)

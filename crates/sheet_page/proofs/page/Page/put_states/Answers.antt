@@ -14,7 +14,7 @@ pub loop-number-preserved : goal.loop-number-preserved
 loop-number-preserved c =
     let sh = told c.args.self.now in
     let i = c.loop-number.number in
-    let inside : i < length sh.states = omega (arith, c.count_of-number-end.ensures, c.loop-number-test.true) in (
+    let inside : i < length sh.states = omega (arith, c.count-number-end.ensures, c.loop-number-test.true) in (
       search rules,
       numbered_next (state_lines sh) _ _ _ i (state_of (piece_of sh State i)) _ _ (next_state sh i inside)
           (c.in_ok-put_state.ensures.added ∙ ap (λ s. said c.loop-number.self.text.now ++ state_lines (sheet_of s.now) i (state_of c.part.result.now)) c.loop-number.invariant.0.sheet
