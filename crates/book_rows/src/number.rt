@@ -4,11 +4,10 @@ ghost use Rattle.std.specs.Prelude.{◌≡◌, ◌<◌, ◌≤◌, length, drop,
 ghost use Rattle.book_rows.specs.Bytes.{number_of};
 
 /// The number that the bytes begin with, and the bytes after it; none where they are too few.
+#[tactic(auto, unfolding(crate::specs::Bytes::number_of))]
 pub fn number(bytes: &[u8]) -> Option<(u32, &[u8])>
     ensures { MatchOption result (length bytes.now < 4) (λ p. (4 ≤ length bytes.now) × (p.0 ≡ number_of bytes.now) × (p.1.now ≡ drop 4 bytes.now)) }
 {
-    match bytes {
-        [a, b, c, d, rest @ ..] => Some((u32::from_be_bytes([*a, *b, *c, *d]), rest)),
-        _ => None,
-    }
+    let (number, rest) = bytes.split_first_chunk::<4>()?;
+    Some((u32::from_be_bytes(*number), rest))
 }

@@ -2,9 +2,7 @@
 
 ghost use Rattle.std.specs.Prelude.{◌≡◌, ◌+◌, ◌≤◌};
 ghost use Rattle.std.proofs.Common.{lit<};
-ghost use Rattle.book_rows.specs.Nexts.{Next};
-ghost use Rattle.book_rows.specs.Sets.{Holds};
-ghost use Rattle.book_rows.specs.Slots.{InSlot, period_of, first_of, width_of, SlotRule, slot_rule, slot_decided};
+ghost use Rattle.book_rows.specs.Slots.{InSlot, period_of, first_of, width_of, SlotRule, slot_rule, slot_decided, slot_meant, slot_same};
 
 use crate::kind::RowKind;
 use crate::number::number;
@@ -18,32 +16,21 @@ pub struct Slot {
     ghost legal: { (1 ≤ width) × (first + width ≤ period) },
 }
 
-impl Slot {
-    /// Whether the value lies in the slot.
-    pub fn holds(self, value: u32) -> bool
-        ensures { Holds (InSlot self.period self.first self.width) value result }
-    {
-        let rest = value % self.period;
-        self.first <= rest && rest < self.first + self.width
-    }
+/// The slot of every value. Three zeros would be no slot, so this is not derived.
+impl Default for Slot {
+    ghost is_default = { λ s. (s.period ≡ 1) × (s.first ≡ 0) × (s.width ≡ 1) };
 
-    /// The least value of the slot at or above this one.
-    pub fn next(self, value: u32) -> Option<u32>
-        ensures { Next (InSlot self.period self.first self.width) value result }
-    {
-        let rest = value % self.period;
-        if rest < self.first {
-            value.checked_add(self.first - rest)
-        } else if rest < self.first + self.width {
-            Some(value)
-        } else {
-            value.checked_add(self.period - rest + self.first)
+    fn default() -> Slot {
+        Slot {
+            period: 1,
+            first: 0,
+            width: 1,
         }
     }
 }
 
 impl RowKind for Slot {
-    ghost size = { 12 };
+    ghost SIZE = { 12 };
 
     ghost sized = { lit< tt };
 
@@ -53,24 +40,23 @@ impl RowKind for Slot {
 
     ghost decided = { slot_decided };
 
+    ghost meant = { slot_meant };
+
+    ghost within = { λ s. InSlot s.period s.first s.width };
+
+    ghost ranged = { λ s v p. p.0 };
+
     ghost reads = { λ row s. (s.period ≡ period_of row) × (s.first ≡ first_of row) × (s.width ≡ width_of row) };
 
-    fn size() -> usize {
-        12
-    }
+    ghost same = { λ row s r. slot_same row s.period s.first s.width r.0 r.1 r.2 };
 
-    fn blank() -> Slot {
-        Slot {
-            period: 1,
-            first: 0,
-            width: 1,
-        }
-    }
+    const SIZE: usize = 12;
 
     fn decode(bytes: &[u8]) -> Option<Slot> {
         let (period, rest) = number(bytes)?;
         let (first, rest) = number(rest)?;
         let (width, _) = number(rest)?;
+        // No `then`: a slot exists only where the test holds, so its closure would repeat the test as a `requires`.
         if width >= 1 && first as u64 + width as u64 <= period as u64 {
             Some(Slot {
                 period,
@@ -79,6 +65,22 @@ impl RowKind for Slot {
             })
         } else {
             None
+        }
+    }
+
+    fn holds(self, value: u32) -> bool {
+        let rest = value % self.period;
+        self.first <= rest && rest < self.first + self.width
+    }
+
+    fn next(self, value: u32) -> Option<u32> {
+        let rest = value % self.period;
+        if rest < self.first {
+            value.checked_add(self.first - rest)
+        } else if rest < self.first + self.width {
+            Some(value)
+        } else {
+            value.checked_add(self.period - rest + self.first)
         }
     }
 }

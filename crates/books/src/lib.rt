@@ -5,7 +5,7 @@ pub mod cases;
 pub mod fault;
 pub mod law;
 pub mod margin;
-mod rows;
+pub mod row_book;
 pub mod slots;
 pub mod time_book;
 pub mod windows;

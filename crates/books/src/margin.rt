@@ -60,10 +60,9 @@ impl<B: TimeBook> TimeBook for Margin<B> {
     }
 
     fn holds(&self, row: u8, value: u32) -> bool {
-        match self.below.next(row, value.saturating_sub(self.by)) {
-            Some(nearest) => nearest.saturating_sub(value) <= self.by,
-            None => false,
-        }
+        self.below
+            .next(row, value.saturating_sub(self.by))
+            .is_some_and(|nearest| nearest.saturating_sub(value) <= self.by)
     }
 
     fn next(&self, row: u8, value: u32) -> Option<u32> {

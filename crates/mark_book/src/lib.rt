@@ -56,11 +56,9 @@ impl TimeBook for Marks {
         self.rows
     }
 
+    #[tactic(auto, using(books::proofs::Agreeing::holds_from_next))]
     fn holds(&self, row: u8, value: u32) -> bool {
-        match self.next(row, value) {
-            Some(first) => first == value,
-            None => false,
-        }
+        self.next(row, value).is_some_and(|first| first == value)
     }
 
     fn next(&self, row: u8, value: u32) -> Option<u32> {
@@ -76,11 +74,9 @@ impl TimeBook for Marks {
 fn first_from(marks: &[Mark], row: u8, value: u32) -> Option<u32>
     ensures { Next (Marked marks.now (length marks.now) row) value result }
 {
-    let mut first: Option<u32> = None;
-    for mark in marks {
-        if mark.row == row && value <= mark.value {
-            first = Some(first.unwrap_or(mark.value).min(mark.value));
-        }
-    }
-    first
+    marks
+        .iter()
+        .filter(|mark| mark.row == row && value <= mark.value)
+        .map(|mark| mark.value)
+        .min()
 }

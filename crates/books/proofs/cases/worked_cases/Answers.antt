@@ -1,18 +1,17 @@
-use Rattle.std.proofs.Common.{◌≡◌, ℕ, Bool, true, false, Some, None, Option, refl, subst, arith}
+use Rattle.std.proofs.Common.{◌≡◌, ℕ, true, false, Some, None, Option, refl, arith}
 use Rattle.books.specs.declared.fault.BookFault.{BookFault}
 use Rattle.books.specs.declared.margin.Margin.{Margin}
-use Rattle.books.specs.declared.slots.Slots.{Slots}
-use Rattle.books.specs.declared.windows.Windows.{Windows}
-use Rattle.books.specs.contracts.slots.SlotsTimeBook.TheImpl.{ghosts as slots-book}
-use Rattle.books.specs.contracts.windows.WindowsTimeBook.TheImpl.{ghosts as windows-book}
+use Rattle.books.specs.declared.row_book.RowBook.{RowBook}
+use Rattle.book_rows.specs.declared.slot.Slot.{Slot}
+use Rattle.book_rows.specs.declared.window.Window.{Window}
 use Rattle.book_rows.specs.Bytes.{number_of}
 use Rattle.books.specs.Cases.{bytes_of_slot, bytes_of_window}
 use Rattle.books.specs.Faults.{fault_of}
 use Rattle.books.specs.Margins.{Near}
-use Rattle.book_rows.specs.Nexts.{Next}
-use Rattle.book_rows.specs.Sets.{Holds, Same}
-use Rattle.book_rows.specs.Slots.{slot_rule, SlotAdmits}
-use Rattle.book_rows.specs.Windows.{window_rule, WindowAdmits}
+use Rattle.book_rows.specs.Sets.{Same}
+use Rattle.book_rows.specs.Slots.{InSlot, slot_rule, SlotAdmits}
+use Rattle.book_rows.specs.Windows.{InWindow, window_rule, WindowAdmits}
+use Rattle.books.specs.Tables.{AmongRows}
 use Rattle.books.proofs.Agreeing.{next_by, holds_by}
 use Rattle.books.proofs.Nearing.{near_same}
 use Rattle.books.proofs.Working.{worked}
@@ -35,28 +34,23 @@ returns-in_err-slots c = absurd (refused _ _ c.in_err-slots.ensures.fault slots_
 pub returns-in_err-read : goal.returns-in_err-read
 returns-in_err-read c = absurd (refused _ _ c.in_err-read.ensures.fault window_legal)
 
--- the answers of books that have the rows of these bytes
-slot_next : (b : Slots) → ((u : ℕ) → Same (slots-book.admits b 0 u) (SlotAdmits bytes_of_slot 0 u)) → (v : ℕ) (a o : Option ℕ)
-    → Next (slots-book.admits b 0) v a → Next (SlotAdmits bytes_of_slot 0) v o → a ≡ o
-slot_next b same = next_by (slots-book.admits b 0) (SlotAdmits bytes_of_slot 0) same
+-- the sets of the one row of each book
+abbrev slots_row : RowBook Slot → ℕ → Type 0
+slots_row b = AmongRows (λ (s : Slot). InSlot s.period s.first s.width) b.rows.items 0
 
-near_slot_next : (b : Slots) (m : Margin Slots) → ((u : ℕ) → Same (slots-book.admits b 0 u) (SlotAdmits bytes_of_slot 0 u)) → m ≡ record { below = b; by = 3 }
-    → (v : ℕ) (a o : Option ℕ) → Next (Near (slots-book.admits m.below 0) m.by) v a → Next (Near (SlotAdmits bytes_of_slot 0) 3) v o → a ≡ o
-near_slot_next b m same is v a o n =
-    next_by (Near (slots-book.admits b 0) 3) (Near (SlotAdmits bytes_of_slot 0) 3) (near_same (slots-book.admits b 0) (SlotAdmits bytes_of_slot 0) 3 same) v a o
-    (subst (λ (x : Margin Slots). Next (Near (slots-book.admits x.below 0) x.by) v a) is n)
+abbrev windows_row : RowBook Window → ℕ → Type 0
+windows_row b = AmongRows (λ (w : Window). InWindow w.low w.high) b.rows.items 0
 
-near_window_holds : (b : Windows) (m : Margin Windows) → ((u : ℕ) → Same (windows-book.admits b 0 u) (WindowAdmits bytes_of_window 0 u)) → m ≡ record { below = b; by = 2 }
-    → (v : ℕ) (a o : Bool) → Holds (Near (windows-book.admits m.below 0) m.by) v a → Holds (Near (WindowAdmits bytes_of_window 0) 2) v o → a ≡ o
-near_window_holds b m same is v a o n =
-    holds_by (Near (windows-book.admits b 0) 2) (Near (WindowAdmits bytes_of_window 0) 2) (near_same (windows-book.admits b 0) (WindowAdmits bytes_of_window 0) 2 same) v a o
-    (subst (λ (x : Margin Windows). Holds (Near (windows-book.admits x.below 0) x.by) v a) is n)
+-- a margin over a book with the values of Q has the values of the margin over Q
+near_by : {B : Type 0} (admits : B → ℕ → Type 0) (Q : ℕ → Type 0) (b : B) (by : ℕ) (m : Margin B) → ((u : ℕ) → Same (admits b u) (Q u)) → m ≡ record { below = b; by = by }
+    → (u : ℕ) → Same (Near (admits m.below) m.by u) (Near Q by u)
+near_by admits Q b by m same is u = rw is (near_same (admits b) Q by same u)
 
 pub returns : goal.returns
 returns c =
-    let slots = slot_next c.in_ok-slots.slots (c.in_ok-slots.ensures.book.1 0) in
-    let near_slots = near_slot_next c.in_ok-slots.slots c.over.result (c.in_ok-slots.ensures.book.1 0) c.over.ensures in
-    let windows = near_window_holds c.in_ok-read.field-0 c.over-windows.result (c.in_ok-read.ensures.book.1 0) c.over-windows.ensures in
+    let slots = next_by _ (SlotAdmits bytes_of_slot 0) (c.in_ok-slots.ensures.book.1 0) in
+    let near_slots = next_by _ (Near (SlotAdmits bytes_of_slot 0) 3) (near_by slots_row _ c.in_ok-slots.slots 3 c.over.result (c.in_ok-slots.ensures.book.1 0) c.over.ensures) in
+    let windows = holds_by _ (Near (WindowAdmits bytes_of_window 0) 2) (near_by windows_row _ c.in_ok-read.field-0 2 c.over-windows.result (c.in_ok-read.ensures.book.1 0) c.over-windows.ensures) in
     let e1 : c.next-early.result ≡ Some 10 = slots 9 _ (Some 10) c.next-early.ensures worked.nexts.0 in
     let e2 : c.next-inside.result ≡ Some 14 = slots 14 _ (Some 14) c.next-inside.ensures worked.nexts.1 in
     let e3 : c.next-late.result ≡ Some 110 = slots 15 _ (Some 110) c.next-late.ensures worked.nexts.2 in

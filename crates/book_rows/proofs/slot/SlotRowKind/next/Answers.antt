@@ -1,5 +1,5 @@
 use Rattle.book_rows.proofs.Times.{before_slot, after_slot}
-use Rattle.book_rows.proofs.slot.Slot.next.Goals as goal
+use Rattle.book_rows.proofs.slot.SlotRowKind.next.Goals as goal
 
 pub returns-then-rest-self : goal.returns-then-rest-self
 returns-then-rest-self c =
