@@ -7,6 +7,7 @@ mod Collecting
 mod Ways
 mod Blanks
 mod Entering
+mod Made
 mod Following
 mod Exploring
 mod Decoding

@@ -1,5 +1,5 @@
 -- Computed: a role's sets in the order in which they are found, or the fault that stops the finding.
-use Rattle.std.specs.Prelude.{ℕ, zero, suc, ◌+◌, Bool, true, false, cond, List, [], ◌∷◌, ◌++◌, length, is_some, Some, None, Option, ◌==◌, nat_eq, nat_lt, slice_index}
+use Rattle.std.specs.Prelude.{ℕ, zero, suc, ◌+◌, cond, List, [], ◌∷◌, ◌++◌, length, is_some, Some, None, Option, Ok, Err, Result, ◌==◌, nat_eq, nat_lt, slice_index}
 use Rattle.protocol.specs.Places.{Place}
 use Rattle.parting.specs.declared.act.Act.{Act}
 use Rattle.parting.specs.declared.edge.Edge.{Edge}
@@ -39,9 +39,9 @@ position mask [] = 0
 position mask (found ∷ more) = cond (found == mask) 0 (suc (position mask more))
 
 -- what was found, or nothing where there was no room
-abbrev pub outcome : Bool → List ℕ → Option (List ℕ)
-outcome true found = Some found
-outcome false found = None
+abbrev pub outcome : {T E : Type 0} → Result T E → List ℕ → Option (List ℕ)
+outcome (Ok x) found = Some found
+outcome (Err e) found = None
 
 -- one more set at the end, unless it was found before; there may be 32
 unfoldable pub entered : List ℕ → ℕ → Option (List ℕ)

@@ -7,7 +7,6 @@ pub mod Stop
 pub mod Bounds
 pub mod Lists
 pub mod Calls
-pub mod Sets
 pub mod Seen
 pub mod Graph
 pub mod Tables

@@ -26,6 +26,7 @@ pub struct LocalSet {
 }
 
 /// A role's local protocol: its sets, in the order in which they are found; the first is the one in which it starts.
+// An array with its length beside it: a `Part` is `Copy` for its users, and an `ArrayVec` is not.
 #[derive(Clone, Copy, Default)]
 pub struct Part {
     pub sets: [LocalSet; 32],

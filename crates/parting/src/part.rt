@@ -12,7 +12,7 @@ use crate::fault::PartFault;
 use crate::graph::decode;
 use crate::local::Part;
 use crate::refused::Refused;
-use crate::role::role_part;
+use crate::role::Role;
 use arrayvec::ArrayVec;
 use reading::read_sheet::ReadSheet;
 
@@ -43,7 +43,7 @@ fn parts_of(sheet: &ReadSheet) -> Result<ArrayVec<Part, 6>, PartFault>
     let transitions = decode(sheet);
     let mut parts = ArrayVec::new();
     for role in 0..counts.roles {
-        let part = role_part(&transitions, role, counts.labels)?;
+        let part = Role::of(&transitions, role, counts.labels).part()?;
         parts.push(part);
     }
     Ok(parts)

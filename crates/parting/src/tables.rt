@@ -2,53 +2,64 @@
 
 ghost use Rattle.std.specs.Prelude.{◌≡◌, ℕ, ◌<◌, ◌≤◌, [], length, None, slice_index_or};
 ghost use Rattle.parting.specs.Seen.{seen};
-ghost use Rattle.parting.specs.Sets.{found_in};
-ghost use Rattle.parting.specs.Tables.{local_kind, move_under, Entry, Table};
+ghost use Rattle.parting.specs.Family.{position as position_in};
+ghost use Rattle.parting.specs.Tables.{kind_by, local_kind, move_under, Entry, Table};
 
 use crate::act::{Act, Way};
-use crate::family::position;
-use crate::found::Sets;
 use crate::local::{LocalKind, LocalSet, Move, Part};
 use crate::view::{SetView, View};
+use std::array;
+
+impl From<Act> for LocalKind {
+    ghost from_gives = { λ act kind. kind ≡ kind_by act.way act.partner };
+
+    fn from(act: Act) -> LocalKind {
+        let partner = act.partner;
+        match act.way {
+            Way::Sends => LocalKind::Sending { partner },
+            Way::Receives => LocalKind::Receiving { partner },
+        }
+    }
+}
 
 fn kind_of(acts: &[Act]) -> LocalKind
     ensures { result ≡ local_kind acts.now }
 {
-    let [first, ..] = acts else {
-        return LocalKind::Finished;
-    };
-    match first.way {
-        Way::Sends => LocalKind::Sending {
-            partner: first.partner,
-        },
-        Way::Receives => LocalKind::Receiving {
-            partner: first.partner,
-        },
+    match acts {
+        [act, ..] => LocalKind::from(*act),
+        [] => LocalKind::Finished,
     }
+}
+
+// Where a set stands among those found; their number, where it does not.
+fn position(found: &[u64], set: u64) -> usize
+    ensures { result ≡ position_in set found.now }
+{
+    found
+        .iter()
+        .position(|other| *other == set)
+        .unwrap_or(found.len())
 }
 
 fn move_of(here: &SetView<'_>, found: &[u64], label: u8) -> Option<Move>
     ensures { result ≡ move_under here.now.silent.now found.now here.now.acts label }
 {
-    let next = position(found, here.successor(label));
-    match here.acts.first_with(label) {
-        Some(act) => Some(Move {
-            row: act.row,
-            reset: act.reset,
-            next,
-        }),
-        None => None,
-    }
+    let act = here.acts.first_with(label)?;
+    Some(Move {
+        row: act.row,
+        reset: act.reset,
+        next: position(found, here.successor(label)),
+    })
 }
 
 fn moves_of(here: &SetView<'_>, found: &[u64]) -> [Option<Move>; 32]
     ensures { (label : ℕ) → label < 32 → slice_index_or result label None ≡ move_under here.now.silent.now found.now here.now.acts label }
 {
-    let mut moves = [None; 32];
-    for label in 0..32u8 {
-        moves[label as usize] = move_of(here, found, label);
-    }
-    moves
+    array::from_fn(|label|
+        requires { label < 32 }
+    {
+        move_of(here, found, label as u8)
+    })
 }
 
 fn local_set(view: &View, found: &[u64], mask: u64) -> LocalSet
@@ -63,14 +74,14 @@ fn local_set(view: &View, found: &[u64], mask: u64) -> LocalSet
 }
 
 // The table of the sets found.
-pub(crate) fn table(view: &View, sets: Sets) -> Part
-    requires { (sets.count ≤ 32) × (length sets.masks ≡ 32) }
-    ensures { Table (seen view.now) (found_in sets) result }
+pub(crate) fn table(view: &View, found: &[u64]) -> Part
+    requires { length found.now ≤ 32 }
+    ensures { Table (seen view.now) found.now result }
 {
     let mut part = Part::default();
-    part.count = sets.count;
-    for i in 0..sets.count {
-        part.sets[i] = local_set(view, &sets.masks[..sets.count], sets.masks[i]);
+    part.count = found.len();
+    for (i, states) in found.iter().enumerate() {
+        part.sets[i] = local_set(view, found, *states);
     }
     part
 }

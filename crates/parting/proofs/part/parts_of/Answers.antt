@@ -2,9 +2,8 @@ use Rattle.std.proofs.Common.{◌≡◌, ◌<◌, ◌≤◌, ◌+◌, List, leng
 use Rattle.std.proofs.lemmas.Result.{err_from_is_err_and}
 use Rattle.std.proofs.lemmas.List.{length_push}
 use Rattle.reading.specs.Reads.{sheet_of}
-use Rattle.protocol.specs.Places.{Place}
 use Rattle.parting.specs.declared.local.Part.{Part}
-use Rattle.parting.specs.Family.{view_of, family_of, stopped}
+use Rattle.parting.specs.Family.{View, view_of, family_of, stopped}
 use Rattle.parting.specs.Parts.{Parted, family}
 use Rattle.parting.specs.View.{places}
 use Rattle.parting.proofs.Decoding.{sheet_valid}
@@ -26,12 +25,15 @@ pub loop-role-preserved : goal.loop-role-preserved
 loop-role-preserved c =
     let sh = sheet_of c.args.sheet.now in
     let l = c.loop-role in
+    let r = c.of.result in
+    let rest = c.of.ensures.rest in
     let part = c.in_ok-part.part in
     let labels = ap (λ k. k.labels) c.counts-counts.ensures.value in
     let roles = ap (λ k. k.roles) c.counts-counts.ensures.value in
+    let view = c.of.ensures.view ∙ ap (view_of l.role) c.decode-transitions.ensures in
     let t : Tabled sh l.role part =
-    subst (λ n. Parted (view_of l.role (places sh)) l.role n part) labels
-    (subst (λ (ps : List Place). Parted (view_of l.role ps) l.role c.counts-counts.result.labels part) c.decode-transitions.ensures c.in_ok-part.ensures) in
+    subst (λ n. Parted (view_of l.role (places sh)) l.role n part) (rest.1 ∙ labels)
+    (subst (λ n. Parted (view_of l.role (places sh)) n r.labels part) rest.0 (subst (λ (v : View). Parted v r.number r.labels part) view c.in_ok-part.ensures)) in
     let more = tabled_more sh l.parts.items l.role part l.invariant.counted t l.invariant.tabled in
     record {
       counted = ap length c.push.ensures.items ∙ length_push l.parts.items part ∙ ap (λ n. n + 1) l.invariant.counted;
@@ -44,13 +46,17 @@ returns-in_err-part c =
     let s = c.args.sheet.now in
     let sh = sheet_of s in
     let l = c.loop-role in
+    let r = c.of.result in
+    let rest = c.of.ensures.rest in
     let f = c.in_err-part.field-0.0 in
     let labels = ap (λ k. k.labels) c.counts-counts.ensures.value in
     let roles = ap (λ k. k.roles) c.counts-counts.ensures.value in
+    let view = c.of.ensures.view ∙ ap (view_of l.role) c.decode-transitions.ensures in
     let within : l.role < length sh.roles = omega (arith, roles, c.loop-role-test.true) in
     let e : family sh l.role ≡ stopped f =
-    ap (λ n. family_of l.role (view_of l.role (places sh)) n) (sym labels)
-    ∙ ap (λ (ps : List Place). family_of l.role (view_of l.role ps) c.counts-counts.result.labels) (sym c.decode-transitions.ensures)
+    ap (λ n. family_of l.role (view_of l.role (places sh)) n) (sym (rest.1 ∙ labels))
+    ∙ ap (λ n. family_of n (view_of l.role (places sh)) r.labels) (sym rest.0)
+    ∙ ap (λ (v : View). family_of r.number v r.labels) (sym view)
     ∙ c.in_err-part.ensures in
     let p = err_from_is_err_and c.from_residual.result c.from_residual.ensures.1 in
     rw (p.1, p.2) (record {

@@ -1,4 +1,4 @@
-use Rattle.std.proofs.Common.{◌≡◌, ℕ, Some, None, Option, sym, ap, ◌∙◌}
+use Rattle.std.proofs.Common.{◌≡◌, ℕ, Some, None, Option, sym, ap, ◌∙◌, rules}
 use Rattle.parting.specs.declared.act.Act.{Act}
 use Rattle.parting.specs.declared.local.Move.{Move}
 use Rattle.parting.specs.Family.{position}
@@ -11,11 +11,13 @@ with_act o a n k e q = rw (e, q)
 without : (o : Option Act) (k : ℕ) → o ≡ None → ◌≡◌ {A = Option Move} None (moved o k)
 without o k e = rw e
 
-pub returns-in-Some : goal.returns-in-Some
+pub returns-in_err-act : goal.returns-in_err-act
 unfolding move_under
-returns-in-Some c =
-    with_act _ c.in-Some.act _ _ (sym c.first_with.ensures ∙ c.in-Some.is) (c.position-next.ensures ∙ ap (λ m. position m c.args.found.now) c.successor.ensures)
+returns-in_err-act c =
+    let none : c.from_residual.result ≡ None = search rules in
+    none ∙ without _ _ (sym c.first_with.ensures ∙ c.in_err-act.was)
 
-pub returns-in-None : goal.returns-in-None
+pub returns : goal.returns
 unfolding move_under
-returns-in-None c = without _ _ (sym c.first_with.ensures ∙ c.in-None.is)
+returns c =
+    with_act _ c.in_ok-act.act _ _ (sym c.first_with.ensures ∙ c.in_ok-act.was) (c.position.ensures ∙ ap (λ m. position m c.args.found.now) c.successor.ensures)
