@@ -32,6 +32,7 @@ use Rattle.session.specs.Earliest.{SomeMove}
 use Rattle.session.specs.Kept.{record_of, no_set, set_at, monitor_of}
 use Rattle.session.specs.Prepared.{set_in_part, move_in_set}
 use Rattle.session.specs.Watches.{Watches}
+use Rattle.session.proofs.Leasts.{move_read}
 
 none_some : (o : Option Move) (to : Move) → o ≡ None → o ≡ Some to → ⊥
 none_some o to p q = let z : ◌≡◌ {A = ℕ} 0 1 = cc in omega arith
@@ -43,9 +44,6 @@ move_below s label to is = go (cases_lt label 32)
     go : (label < 32) ⊎ (32 ≤ label) → label < 32
     go (inl h) = h
     go (inr h) = absurd (none_some (move_in_set s label) to (cond-false (ltb label 32) (get_or s.moves label None) None (le-ltb label 32 h)) is)
-
-move_read : (s : LocalSet) (label : ℕ) → label < 32 → move_in_set s label ≡ get_or s.moves label None
-move_read s label h = cond-true (ltb label 32) (get_or s.moves label None) None (lt-ltb label 32 h)
 
 -- where a set sends and there is room, the role can act when some move is admitted
 pub sends_least : (book : Book) (inner : Inner) (m : ℕ) (s : LocalSet) (p : ℕ) (o : Option LocalSet) (low high : ℕ) (answer : Option ℕ) →

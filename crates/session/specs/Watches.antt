@@ -10,6 +10,7 @@ use Rattle.events.specs.declared.event.Event.{Event}
 use Rattle.runs.specs.Run.{Book}
 use Rattle.runs.specs.Stands.{Stands}
 use Rattle.session.specs.declared.inner.Inner.{Inner}
+use Rattle.session.specs.declared.session.Session.{Session}
 use Rattle.session.specs.Kept.{record_of, monitor_of}
 
 -- a valid sheet that is accepted, with its parts
@@ -26,3 +27,7 @@ pub record Watches (sh : Sheet) (book : Book) (opening depth : ℕ) (es : List E
   pub shallow : depth ≤ 8
   pub numbers : (m : ℕ) → m < length sh.roles → (record_of inner m).set < (slice_index_or accepted.parts.items m no_part).count
   pub stands : Stands sh book opening depth es (monitor_of accepted inner)
+
+-- the same of a session, where `admits` says what its book admits
+abbrev pub SessionWatches : {B : Type 0} → (B → Book) → Sheet → ℕ → ℕ → List Event → Session B → Type 0
+SessionWatches admits sh opening depth es s = Watches sh (admits s.book) opening depth es s.accepted s.inner

@@ -4,7 +4,6 @@ ghost use Rattle.std.specs.Prelude.{◌≡◌, ◌≤◌};
 ghost use Rattle.runs.specs.Laws.{Least};
 ghost use Rattle.session.specs.Earliest.{SomeMove, sooner_of};
 
-use crate::local::move_in;
 use crate::row::next_tick;
 use books::time_book::TimeBook;
 use parting::local::LocalSet;
@@ -19,10 +18,8 @@ pub(crate) fn earliest<B: TimeBook>(
     ensures { since ≤ latest → Least (SomeMove (B.TimeBook.admits book.now) set.now since 32) latest 4294967295 result }
 {
     let mut best = None;
-    for label in 0..32 {
-        if let Some(to) = move_in(set, label) {
-            best = sooner(best, next_tick(book, to.row, since, latest));
-        }
+    for to in set.moves.iter() {
+        best = sooner(best, next_tick(book, *to, since, latest));
     }
     best
 }
@@ -31,9 +28,5 @@ pub(crate) fn earliest<B: TimeBook>(
 fn sooner(a: Option<u32>, b: Option<u32>) -> Option<u32>
     ensures { result ≡ sooner_of a b }
 {
-    match (a, b) {
-        (Some(a), Some(b)) => Some(a.min(b)),
-        (Some(a), None) => Some(a),
-        (None, b) => b,
-    }
+    a.zip(b).map(|(a, b)| a.min(b)).or(a).or(b)
 }

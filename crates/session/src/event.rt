@@ -4,10 +4,8 @@ ghost use Rattle.std.specs.Prelude.{◌≡◌, ℕ, List, [], ◌∷◌, ◌++�
 ghost use Rattle.sheet.specs.Model.{Sheet};
 ghost use Rattle.events.specs.declared.event.Event.{Event as AnEvent};
 ghost use Rattle.session.specs.Outcomes.{Passing, Stopping};
-ghost use Rattle.session.specs.Watches.{Watches};
+ghost use Rattle.session.specs.Watches.{SessionWatches};
 
-use crate::judge::judge;
-use crate::pass::pass;
 use crate::session::Session;
 use books::time_book::TimeBook;
 use events::event::Event;
@@ -21,9 +19,9 @@ impl<B: TimeBook> Session<B> {
     pub fn event(&mut self, event: Event) -> Result<u32, SessionFault>
         ensures kept { (self.new.accepted ≡ self.old.accepted) × (self.new.book ≡ self.old.book) }
         ensures stays { OnErr result (self.new ≡ self.old) }
-        ensures whole { (sh : Sheet) (opening depth : ℕ) (es : List AnEvent) → Watches sh (B.TimeBook.admits self.old.book) opening depth es self.old.accepted self.old.inner → MatchResult result (λ n. Passing sh (B.TimeBook.admits self.old.book) opening depth es event n × Watches sh (B.TimeBook.admits self.old.book) opening depth (es ++ event ∷ []) self.new.accepted self.new.inner) (λ fault. Stopping sh (B.TimeBook.admits self.old.book) opening depth es event fault) }
+        ensures whole { (sh : Sheet) (opening depth : ℕ) (es : List AnEvent) → SessionWatches B.TimeBook.admits sh opening depth es self.old → MatchResult result (λ n. Passing sh (B.TimeBook.admits self.old.book) opening depth es event n × SessionWatches B.TimeBook.admits sh opening depth (es ++ event ∷ []) self.new) (λ fault. Stopping sh (B.TimeBook.admits self.old.book) opening depth es event fault) }
     {
-        let step = judge(&self.accepted, &self.book, &self.inner, event)?;
-        Ok(pass(&mut self.inner, event, step))
+        let step = self.judge(event)?;
+        Ok(self.inner.pass(event, step))
     }
 }

@@ -7,10 +7,10 @@ ghost use Rattle.runs.specs.Laws.{Least};
 ghost use Rattle.session.specs.Chances.{ActsAt};
 ghost use Rattle.session.specs.Kept.{record_of};
 ghost use Rattle.session.specs.Outcomes.{Forecasting, NoRole};
-ghost use Rattle.session.specs.Watches.{Watches};
+ghost use Rattle.session.specs.Watches.{SessionWatches};
 
 use crate::earliest::earliest;
-use crate::local::{move_in, set_in};
+use crate::local::move_in;
 use crate::row::next_tick;
 use crate::session::Session;
 use books::time_book::TimeBook;
@@ -21,7 +21,7 @@ impl<B: TimeBook> Session<B> {
     /// The least tick, from the latest to 4,294,967,295, at which some event of the role makes a run with the events that
     /// have passed; or none, and then there is no such tick. It is stopped for a role that the sheet does not have.
     pub fn forecast(&self, role: u8) -> Result<Option<u32>, SessionFault>
-        ensures { (sh : Sheet) (opening depth : ℕ) (es : List Event) → Watches sh (B.TimeBook.admits self.now.book) opening depth es self.now.accepted self.now.inner → MatchResult result (Forecasting sh (B.TimeBook.admits self.now.book) opening depth es role) (NoRole sh role) }
+        ensures { (sh : Sheet) (opening depth : ℕ) (es : List Event) → SessionWatches B.TimeBook.admits sh opening depth es self.now → MatchResult result (Forecasting sh (B.TimeBook.admits self.now.book) opening depth es role) (NoRole sh role) }
     {
         if role >= self.accepted.counts().roles {
             return Err(SessionFault::Who { role, label: 0 });
@@ -37,7 +37,7 @@ impl<B: TimeBook> Session<B> {
         let record = self.inner.records[role as usize];
         let latest = self.inner.latest;
         let channels = &self.inner.channels;
-        let set = set_in(&self.accepted, role, record.set)?;
+        let set = self.set_of(role)?;
         match set.kind {
             LocalKind::Finished => None,
             LocalKind::Sending { partner } => {
@@ -48,8 +48,8 @@ impl<B: TimeBook> Session<B> {
             }
             LocalKind::Receiving { partner } => {
                 let message = channels.oldest(partner, role)?;
-                let to = move_in(set, message.label)?;
-                next_tick(&self.book, to.row, record.since, latest)
+                let to = move_in(set, message.label);
+                next_tick(&self.book, to, record.since, latest)
             }
         }
     }

@@ -2,43 +2,41 @@
 
 ghost use Rattle.std.specs.Prelude.{◌≡◌};
 ghost use Rattle.std.specs.Option.{option_map};
-ghost use Rattle.session.specs.Prepared.{set_in_part, move_in_set, step_for};
+ghost use Rattle.session.specs.Kept.{record_of};
+ghost use Rattle.session.specs.Prepared.{set_in_part, move_in_set, step_in};
 
+use crate::session::Session;
 use crate::step::{Direction, Step};
 use events::event::Event;
-use parting::accepted::Accepted;
 use parting::local::{LocalKind, LocalSet, Move};
 
-/// The set with this number in a role's part.
-pub(crate) fn set_in(accepted: &Accepted, role: u8, number: usize) -> Option<&LocalSet>
-    ensures { option_map (λ x. x.now) result ≡ set_in_part accepted.now role number }
-{
-    let part = accepted.part(role as usize)?;
-    if number >= 32 {
-        return None;
+impl<B> Session<B> {
+    /// The set that the role's record numbers; none for a role that the sheet does not have.
+    pub(crate) fn set_of(&self, role: u8) -> Option<&LocalSet>
+        ensures { option_map (λ x. x.now) result ≡ set_in_part self.now.accepted role (record_of self.now.inner role).set }
+    {
+        let part = self.accepted.part(role as usize)?;
+        part.sets.get(self.inner.records[role as usize].set)
     }
-    Some(&part.sets[number])
+
+    /// What the role does in its set, the event's direction and its partner decide together whether it is a step.
+    pub(crate) fn step_of(&self, event: Event) -> Option<Step>
+        ensures { result ≡ step_in (set_in_part self.now.accepted event.role (record_of self.now.inner event.role).set) event }
+    {
+        let set = self.set_of(event.role)?;
+        let direction = match (set.kind, event.direction, event.partner) {
+            (LocalKind::Sending { partner }, 0, to) if to == partner => Direction::Sends,
+            (LocalKind::Receiving { partner }, 1, from) if from == partner => Direction::Takes,
+            _ => return None,
+        };
+        let to = move_in(set, event.label)?;
+        Some(Step { direction, to })
+    }
 }
 
 /// How the role goes on from a set under a label.
 pub(crate) fn move_in(set: &LocalSet, label: u8) -> Option<Move>
     ensures { result ≡ move_in_set set.now label }
 {
-    if label >= 32 {
-        return None;
-    }
-    set.moves[label as usize]
-}
-
-/// What the role does in the set, the event's direction and its partner decide together whether it is a step.
-pub(crate) fn step_of(set: &LocalSet, event: Event) -> Option<Step>
-    ensures { result ≡ step_for set.now event }
-{
-    let direction = match (set.kind, event.direction, event.partner) {
-        (LocalKind::Sending { partner }, 0, to) if to == partner => Direction::Sends,
-        (LocalKind::Receiving { partner }, 1, from) if from == partner => Direction::Takes,
-        _ => return None,
-    };
-    let to = move_in(set, event.label)?;
-    Some(Step { direction, to })
+    set.moves.get(label as usize).copied().flatten()
 }

@@ -3,7 +3,7 @@
 ghost use Rattle.std.specs.Prelude.{◌≡◌, [], MatchResult};
 ghost use Rattle.sheet.specs.Model.{Sheet};
 ghost use Rattle.session.specs.Opening.{open_fault, fault_of};
-ghost use Rattle.session.specs.Watches.{IsOf, Watches};
+ghost use Rattle.session.specs.Watches.{IsOf, SessionWatches};
 
 use crate::inner::Inner;
 use crate::record::Record;
@@ -29,7 +29,7 @@ impl<B: TimeBook> Session<B> {
         depth: u8,
     ) -> Result<Session<B>, Unopened<B>>
         ensures judged { fault_of result ≡ open_fault accepted.counts.rows (B.TimeBook.count book) depth }
-        ensures whole { MatchResult result (λ s. (s.accepted ≡ accepted) × (s.book ≡ book) × ((sh : Sheet) → IsOf sh accepted → Watches sh (B.TimeBook.admits book) tick depth [] s.accepted s.inner)) (λ e. (e.accepted ≡ accepted) × (e.book ≡ book)) }
+        ensures whole { MatchResult result (λ s. (s.accepted ≡ accepted) × (s.book ≡ book) × ((sh : Sheet) → IsOf sh accepted → SessionWatches B.TimeBook.admits sh tick depth [] s)) (λ e. (e.accepted ≡ accepted) × (e.book ≡ book)) }
     {
         let rows = book.rows();
         if rows < accepted.counts().rows as usize {
@@ -65,7 +65,7 @@ impl<B: TimeBook> Session<B> {
     /// Opens a session with depth 8.
     pub fn open_short(accepted: Accepted, book: B, tick: u32) -> Result<Session<B>, Unopened<B>>
         ensures judged { fault_of result ≡ open_fault accepted.counts.rows (B.TimeBook.count book) 8 }
-        ensures whole { MatchResult result (λ s. (s.accepted ≡ accepted) × (s.book ≡ book) × ((sh : Sheet) → IsOf sh accepted → Watches sh (B.TimeBook.admits book) tick 8 [] s.accepted s.inner)) (λ e. (e.accepted ≡ accepted) × (e.book ≡ book)) }
+        ensures whole { MatchResult result (λ s. (s.accepted ≡ accepted) × (s.book ≡ book) × ((sh : Sheet) → IsOf sh accepted → SessionWatches B.TimeBook.admits sh tick 8 [] s)) (λ e. (e.accepted ≡ accepted) × (e.book ≡ book)) }
     {
         Session::open(accepted, book, tick, DEEPEST)
     }

@@ -10,24 +10,26 @@ use channels::channels::Channels;
 use events::event::Event;
 use events::message::Message;
 
-/// The role goes on to its next set and its clock is reset where the step says so; the message is put or taken; and the
-/// tick is now the latest. Answers how many messages wait in a sending's channel, or the ticks that a taking's message
-/// was under way.
-pub(crate) fn pass(inner: &mut Inner, event: Event, step: Step) -> u32
-    requires { event.role < 6 }
-    ensures records { inner.new.records ≡ set inner.old.records event.role (record { set = step.to.next; since = (if step.to.reset then event.tick else (record_of inner.old event.role).since) }) }
-    ensures six { 6 ≤ length inner.old.records }
-    ensures latest { inner.new.latest ≡ event.tick }
-    ensures depth { inner.new.depth ≡ inner.old.depth }
-    ensures channels { Delivered step.direction inner.old.channels event inner.new.channels result }
-{
-    let record = &mut inner.records[event.role as usize];
-    record.set = step.to.next;
-    if step.to.reset {
-        record.since = event.tick;
+impl Inner {
+    /// The role goes on to its next set and its clock is reset where the step says so; the message is put or taken; and the
+    /// tick is now the latest. Answers how many messages wait in a sending's channel, or the ticks that a taking's message
+    /// was under way.
+    pub(crate) fn pass(&mut self, event: Event, step: Step) -> u32
+        requires { event.role < 6 }
+        ensures records { self.new.records ≡ set self.old.records event.role (record { set = step.to.next; since = (if step.to.reset then event.tick else (record_of self.old event.role).since) }) }
+        ensures six { 6 ≤ length self.old.records }
+        ensures latest { self.new.latest ≡ event.tick }
+        ensures depth { self.new.depth ≡ self.old.depth }
+        ensures channels { Delivered step.direction self.old.channels event self.new.channels result }
+    {
+        let record = &mut self.records[event.role as usize];
+        record.set = step.to.next;
+        if step.to.reset {
+            record.since = event.tick;
+        }
+        self.latest = event.tick;
+        deliver(&mut self.channels, event, step.direction)
     }
-    inner.latest = event.tick;
-    deliver(&mut inner.channels, event, step.direction)
 }
 
 fn deliver(channels: &mut Channels, event: Event, direction: Direction) -> u32
@@ -42,9 +44,8 @@ fn deliver(channels: &mut Channels, event: Event, direction: Direction) -> u32
             let _ = channels.send(event.role, event.partner, message);
             channels.count(event.role, event.partner) as u32
         }
-        Direction::Takes => match channels.take(event.partner, event.role) {
-            Some(message) => event.tick.saturating_sub(message.tick),
-            None => 0,
-        },
+        Direction::Takes => channels
+            .take(event.partner, event.role)
+            .map_or(0, |message| event.tick.saturating_sub(message.tick)),
     }
 }

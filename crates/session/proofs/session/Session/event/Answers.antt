@@ -20,7 +20,7 @@ returns g c =
     let step = c.in_ok-step.step in
     let ok = c.in_ok-step.ensures in
     let six : 6 ≤ length c.args.self.now.inner.records = c.pass.ensures.six in
-    let leaves : Leaves c.args.self.now.inner c.args.event step c.pass.new.inner c.pass.result = record {
+    let leaves : Leaves c.args.self.now.inner c.args.event step c.pass.new.self c.pass.result = record {
       records = c.pass.ensures.records;
       latest = c.pass.ensures.latest;
       depth = c.pass.ensures.depth;
@@ -31,7 +31,7 @@ returns g c =
       stays = tt;
       whole = λ sh opening depth es w.
           let s = subst (Judgement sh (g.B.TimeBook.admits c.args.self.now.book) opening depth es c.args.self.now.accepted c.args.self.now.inner w c.args.event) ok.0 (judged sh (g.B.TimeBook.admits c.args.self.now.book) opening depth es c.args.self.now.accepted c.args.self.now.inner w c.args.event) in (
-            passing sh (g.B.TimeBook.admits c.args.self.now.book) opening depth es c.args.self.now.accepted c.args.self.now.inner w c.args.event step s c.pass.new.inner c.pass.result leaves six ok.1,
-            watches_on sh (g.B.TimeBook.admits c.args.self.now.book) opening depth es c.args.self.now.accepted c.args.self.now.inner w c.args.event step s c.pass.new.inner c.pass.result leaves six ok.1,
+            passing sh (g.B.TimeBook.admits c.args.self.now.book) opening depth es c.args.self.now.accepted c.args.self.now.inner w c.args.event step s c.pass.new.self c.pass.result leaves six ok.1,
+            watches_on sh (g.B.TimeBook.admits c.args.self.now.book) opening depth es c.args.self.now.accepted c.args.self.now.inner w c.args.event step s c.pass.new.self c.pass.result leaves six ok.1,
           );
     }
