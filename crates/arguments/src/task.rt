@@ -1,26 +1,23 @@
-//! What a program is asked to do.
+//! What the arguments ask of a program.
 
 use std::{env, io};
 
-/// What a program is asked to do: its work where it has no argument, to print its help for `--help`, and nothing
-/// that it knows otherwise.
-pub enum Task {
-    Work,
-    Help,
-    Unknown,
-}
-
-/// What the arguments ask for.
-pub fn asked(rt: &HostRuntime) -> io::Result<Task> {
+/// Does the work of a program that has no argument; prints its help for `--help`. Any other argument is unknown: the
+/// help goes to standard error, and the program ends with a failure.
+pub fn run<F: FnOnce(&HostRuntime) -> io::Result<()>>(
+    rt: &HostRuntime,
+    help: &str,
+    work: F,
+) -> io::Result<()>
+    requires { F.IsAlwaysCallable work }
+{
     let mut args = env::args(rt)?.skip(1);
     match args.next() {
-        None => Ok(Task::Work),
-        Some(word) if word.as_str() == "--help" => Ok(Task::Help),
-        Some(_) => Ok(Task::Unknown),
+        None => work(rt),
+        Some(word) if word.as_str() == "--help" => rt.print(help),
+        Some(_) => {
+            rt.eprint(help)?;
+            Err(io::Error::from(io::ErrorKind::InvalidInput))
+        }
     }
-}
-
-/// What an unknown argument ends with.
-pub fn unknown() -> io::Error {
-    io::Error::from(io::ErrorKind::InvalidInput)
 }

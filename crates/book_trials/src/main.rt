@@ -8,7 +8,7 @@ mod readings;
 mod tables;
 mod trials;
 
-use arguments::task::{Task, asked, unknown};
+use arguments::task::run;
 use books::cases::worked_cases;
 use books::fault::BookFault;
 use compare::Tally;
@@ -38,14 +38,7 @@ Example:
 ";
 
 fn main(rt: HostRuntime) -> io::Result<()> {
-    match asked(&rt)? {
-        Task::Work => try_all(&rt),
-        Task::Help => rt.print(HELP),
-        Task::Unknown => {
-            rt.eprint(HELP)?;
-            Err(unknown())
-        }
-    }
+    run(&rt, HELP, try_all)
 }
 
 fn try_all(rt: &HostRuntime) -> io::Result<()> {

@@ -4,7 +4,7 @@
 
 mod shown;
 
-use arguments::task::{Task, asked, unknown};
+use arguments::task::run;
 use shown::{reported, returned, tried};
 use std::io;
 use trials::{forecasts, sheets, sittings, stopped};
@@ -22,14 +22,7 @@ Example:
 ";
 
 fn main(rt: HostRuntime) -> io::Result<()> {
-    match asked(&rt)? {
-        Task::Work => try_all(&rt),
-        Task::Help => rt.print(HELP),
-        Task::Unknown => {
-            rt.eprint(HELP)?;
-            Err(unknown())
-        }
-    }
+    run(&rt, HELP, try_all)
 }
 
 fn try_all(rt: &HostRuntime) -> io::Result<()> {

@@ -2,10 +2,10 @@
 
 #![tactic(auto)]
 
-use arguments::task::{Task, asked, unknown};
+use arguments::input::answer_input;
+use arguments::task::run;
 use listing::list::{MOST_INPUT, list};
 use std::io;
-use std::io::{Read, Write};
 
 const HELP: &str = "\
 inspect reads a sheet from standard input and prints what it says: how many
@@ -24,22 +24,9 @@ Example:
 ";
 
 fn inspect(rt: &HostRuntime) -> io::Result<()> {
-    let mut input = Vec::new(rt.alloc());
-    // One byte past the most shows that there are too many.
-    rt.stdin()
-        .take(MOST_INPUT as u64 + 1)
-        .read_to_end(&mut input)?;
-    let text = list(rt.alloc(), input.as_slice())?;
-    rt.stdout().write_all(text.as_slice())
+    answer_input(rt, MOST_INPUT, list)
 }
 
 fn main(rt: HostRuntime) -> io::Result<()> {
-    match asked(&rt)? {
-        Task::Work => inspect(&rt),
-        Task::Help => rt.print(HELP),
-        Task::Unknown => {
-            rt.eprint(HELP)?;
-            Err(unknown())
-        }
-    }
+    run(&rt, HELP, inspect)
 }

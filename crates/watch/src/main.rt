@@ -2,7 +2,7 @@
 
 #![tactic(auto)]
 
-use arguments::task::{Task, asked, unknown};
+use arguments::task::run;
 use books::windows::Windows;
 use program::program::watch;
 use std::io;
@@ -33,12 +33,5 @@ Example:
 ";
 
 fn main(rt: HostRuntime) -> io::Result<()> {
-    match asked(&rt)? {
-        Task::Work => watch::<Windows>(&rt),
-        Task::Help => rt.print(HELP),
-        Task::Unknown => {
-            rt.eprint(HELP)?;
-            Err(unknown())
-        }
-    }
+    run(&rt, HELP, watch::<Windows>)
 }

@@ -2,7 +2,7 @@
 
 #![tactic(auto)]
 
-use arguments::task::{Task, asked, unknown};
+use arguments::task::run;
 use books::slots::Slots;
 use program::program::watch;
 use std::io;
@@ -33,12 +33,5 @@ Example:
 ";
 
 fn main(rt: HostRuntime) -> io::Result<()> {
-    match asked(&rt)? {
-        Task::Work => watch::<Slots>(&rt),
-        Task::Help => rt.print(HELP),
-        Task::Unknown => {
-            rt.eprint(HELP)?;
-            Err(unknown())
-        }
-    }
+    run(&rt, HELP, watch::<Slots>)
 }
