@@ -4,45 +4,38 @@
 
 pub mod outcomes;
 
+use arrayvec::ArrayVec;
 use parting::part::part;
 use reading::read::read;
 use stops::stop::Stop;
 
-/// A sheet's bytes, as far as they are written.
-#[derive(Clone, Copy)]
+/// A sheet's bytes, as far as they are written; bytes past the 1024th are left out.
+#[derive(Drop)]
 pub struct Bytes {
-    bytes: [u8; 1024],
-    len: usize,
+    written: ArrayVec<u8, 1024>,
 }
 
 impl Bytes {
     fn new() -> Bytes {
         Bytes {
-            bytes: [0; 1024],
-            len: 0,
+            written: ArrayVec::new(),
         }
     }
 
-    fn push(&mut self, byte: u8) {
-        if self.len < 1024 {
-            self.bytes[self.len] = byte;
-            self.len += 1;
+    fn push(&mut self, bytes: &[u8]) {
+        for byte in bytes {
+            let _ = self.written.try_push(*byte);
         }
     }
 
     // A number of 16 bits, the high byte first.
     fn push_wide(&mut self, number: usize) {
-        self.push((number / 256 % 256) as u8);
-        self.push((number % 256) as u8);
+        self.push(&((number % 65_536) as u16).to_be_bytes());
     }
 
     // The edition, the counts, the pairs of the names and the names' own lengths; every name has one byte.
     fn push_header(&mut self, roles: u8, labels: u8, states: usize, rows: u8) {
-        self.push(1);
-        self.push(roles);
-        self.push(labels);
-        self.push((states % 256) as u8);
-        self.push(rows);
+        self.push(&[1, roles, labels, (states % 256) as u8, rows]);
         let names = roles as usize + labels as usize;
         for name in 0..names {
             self.push_wide(first_piece(names, states).wrapping_add(name));
@@ -51,11 +44,8 @@ impl Bytes {
     }
 
     fn push_names(&mut self, roles: u8, labels: u8) {
-        for role in 0..roles {
-            self.push(b'A'.wrapping_add(role));
-        }
-        for label in 0..labels {
-            self.push(b'A'.wrapping_add(label));
+        for name in (0..roles).chain(0..labels) {
+            self.push(&[b'A'.wrapping_add(name)]);
         }
     }
 }
@@ -77,9 +67,7 @@ pub fn written(roles: u8, labels: u8, rows: u8, states: &[&[u8]]) -> Bytes {
     }
     out.push_names(roles, labels);
     for body in states {
-        for byte in *body {
-            out.push(*byte);
-        }
+        out.push(body);
     }
     out
 }
@@ -96,55 +84,31 @@ pub fn chain(exchanges: u8) -> Bytes {
     }
     out.push_names(2, 1);
     for state in 0..exchanges {
-        out.push(0);
-        out.push(1);
-        out.push(0);
-        out.push(state.wrapping_add(1));
-        out.push(255);
-        out.push(255);
-        out.push(0);
+        out.push(&[0, 1, 0, state.wrapping_add(1), 255, 255, 0]);
     }
     out
 }
 
-/// The stop's number and places; number 0 where the sheet is accepted, and 255 where it can't be read.
-pub fn answer(sheet: &Bytes) -> (u8, usize, usize) {
-    if sheet.len > 1024 {
-        return (255, 0, 0);
-    }
-    match read(&sheet.bytes[0..sheet.len]) {
-        Err(_) => (255, 0, 0),
-        Ok(sheet) => match part(sheet) {
-            Ok(_) => (0, 0, 0),
-            Err(refused) => {
-                let stop = Stop::from(refused);
-                (stop.number, stop.first, stop.second)
-            }
-        },
-    }
+/// The stop with which reading or parting refuses a sheet, if one does.
+pub fn answer(sheet: &Bytes) -> Result<(), Stop> {
+    parted(sheet.written.as_slice())
 }
 
-/// The masks of a role's first four sets, and how many sets it has; all 0 where it has no part.
-pub fn first_sets(sheet: &Bytes, role: usize) -> (usize, [u64; 4]) {
-    if sheet.len > 1024 {
-        return (0, [0; 4]);
+pub(crate) fn parted(bytes: &[u8]) -> Result<(), Stop> {
+    part(read(bytes)?)?;
+    Ok(())
+}
+
+/// How many sets a role has, and the masks of its first four; none where it has no part.
+pub fn first_sets(sheet: &Bytes, role: usize) -> Option<(usize, [u64; 4])> {
+    let sheet = read(sheet.written.as_slice()).ok()?;
+    let accepted = part(sheet).ok()?;
+    let part = accepted.part(role)?;
+    let mut masks = [0; 4];
+    for (mask, set) in masks.iter_mut().zip(part.found()) {
+        *mask = set.states;
     }
-    let Ok(sheet) = read(&sheet.bytes[0..sheet.len]) else {
-        return (0, [0; 4]);
-    };
-    let Ok(accepted) = part(sheet) else {
-        return (0, [0; 4]);
-    };
-    let Some(part) = accepted.part(role) else {
-        return (0, [0; 4]);
-    };
-    let masks = [
-        part.sets[0].states,
-        part.sets[1].states,
-        part.sets[2].states,
-        part.sets[3].states,
-    ];
-    (part.count, masks)
+    Some((part.count, masks))
 }
 
 #[cfg(test)]
@@ -165,8 +129,8 @@ mod tests {
                 END,
             ],
         );
-        assert_eq!(rt; answer(&sheet), (0, 0, 0));
-        assert_eq!(rt; first_sets(&sheet, 0), (3, [1, 2, 4, 0]));
+        assert_eq!(rt; answer(&sheet), Ok(()));
+        assert_eq!(rt; first_sets(&sheet, 0), Some((3, [1, 2, 4, 0])));
     }
 
     // The third party is not told which way was taken.
@@ -182,11 +146,11 @@ mod tests {
                 END,
             ],
         );
-        assert_eq!(rt; answer(&sheet), (24, 2, 0));
+        assert_eq!(rt; answer(&sheet), Err(Stop::new(24, 2, 0)));
     }
 
     // C cannot tell states 1 to 3 apart once it has received; what it does in 2 and in 3 differs.
-    fn two_ways(rows: u8, one: &'static [u8], other: &'static [u8]) -> (u8, usize, usize) {
+    fn two_ways(rows: u8, one: &'static [u8], other: &'static [u8]) -> Result<(), Stop> {
         answer(&written(
             3,
             2,
@@ -205,11 +169,11 @@ mod tests {
     fn crossed(rt: HostRuntime) {
         assert_eq!(rt;
             two_ways(0, &[2, 0, 0, 4, 255, 255, 0], &[0, 2, 0, 4, 255, 255, 0]),
-            (21, 2, 1)
+            Err(Stop::new(21, 2, 1))
         );
         assert_eq!(rt;
             two_ways(0, &[0, 2, 0, 4, 255, 255, 0], &[1, 2, 0, 4, 255, 255, 0]),
-            (21, 2, 1)
+            Err(Stop::new(21, 2, 1))
         );
     }
 
@@ -217,20 +181,20 @@ mod tests {
     fn offer(rt: HostRuntime) {
         assert_eq!(rt;
             two_ways(0, &[2, 0, 0, 4, 255, 255, 0], &[2, 0, 1, 4, 255, 255, 0]),
-            (22, 2, 1)
+            Err(Stop::new(22, 2, 1))
         );
         assert_eq!(rt;
             two_ways(1, &[2, 0, 0, 4, 0, 255, 0], &[2, 0, 0, 4, 255, 255, 0]),
-            (22, 2, 1)
+            Err(Stop::new(22, 2, 1))
         );
         assert_eq!(rt;
             two_ways(0, &[2, 0, 0, 4, 255, 255, 1], &[2, 0, 0, 4, 255, 255, 2]),
-            (22, 2, 1)
+            Err(Stop::new(22, 2, 1))
         );
         // the partner's row and clock may differ
         assert_eq!(rt;
             two_ways(1, &[2, 0, 0, 4, 255, 0, 1], &[2, 0, 0, 4, 255, 255, 3]),
-            (0, 0, 0)
+            Ok(())
         );
     }
 
@@ -238,16 +202,16 @@ mod tests {
     fn clash(rt: HostRuntime) {
         assert_eq!(rt;
             two_ways(1, &[0, 2, 0, 4, 255, 0, 0], &[0, 2, 0, 4, 255, 255, 0]),
-            (23, 2, 1)
+            Err(Stop::new(23, 2, 1))
         );
         assert_eq!(rt;
             two_ways(0, &[0, 2, 0, 4, 255, 255, 2], &[0, 2, 0, 4, 255, 255, 1]),
-            (23, 2, 1)
+            Err(Stop::new(23, 2, 1))
         );
         // labels of a receiver are united
         assert_eq!(rt;
             two_ways(1, &[0, 2, 0, 4, 255, 0, 0], &[0, 2, 1, 4, 255, 255, 2]),
-            (0, 0, 0)
+            Ok(())
         );
     }
 
@@ -265,21 +229,21 @@ mod tests {
                 END,
             ],
         );
-        assert_eq!(rt; answer(&sheet), (21, 2, 0));
+        assert_eq!(rt; answer(&sheet), Err(Stop::new(21, 2, 0)));
     }
 
     // A role that never acts is finished, also in an endless loop.
     #[test]
     fn silent_for_ever(rt: HostRuntime) {
         let sheet = written(3, 1, 0, &[&[0, 1, 0, 0, 255, 255, 0]]);
-        assert_eq!(rt; answer(&sheet), (0, 0, 0));
-        assert_eq!(rt; first_sets(&sheet, 2), (1, [1, 0, 0, 0]));
+        assert_eq!(rt; answer(&sheet), Ok(()));
+        assert_eq!(rt; first_sets(&sheet, 2), Some((1, [1, 0, 0, 0])));
     }
 
     #[test]
     fn most_sets(rt: HostRuntime) {
-        assert_eq!(rt; answer(&chain(31)), (0, 0, 0));
-        assert_eq!(rt; first_sets(&chain(31), 1), (32, [1, 2, 4, 8]));
-        assert_eq!(rt; answer(&chain(32)), (25, 0, 31));
+        assert_eq!(rt; answer(&chain(31)), Ok(()));
+        assert_eq!(rt; first_sets(&chain(31), 1), Some((32, [1, 2, 4, 8])));
+        assert_eq!(rt; answer(&chain(32)), Err(Stop::new(25, 0, 31)));
     }
 }
