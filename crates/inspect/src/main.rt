@@ -24,7 +24,7 @@ Example:
 ";
 
 fn inspect(rt: &HostRuntime) -> io::Result<()> {
-    answer_input(rt, MOST_INPUT, list)
+    answer_input(rt, MOST_INPUT, |heap, bytes| list(heap, bytes))
 }
 
 fn main(rt: HostRuntime) -> io::Result<()> {

@@ -8,5 +8,5 @@ use std::io;
 
 /// Reads standard input to its end and prints what `run` answers.
 pub fn watch<B: ReadBook + Drop>(rt: &HostRuntime) -> io::Result<()> {
-    answer_input(rt, MOST_INPUT, run::<B>)
+    answer_input(rt, MOST_INPUT, |heap, bytes| run::<B>(heap, bytes))
 }
