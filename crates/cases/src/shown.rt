@@ -5,6 +5,7 @@ use books::margin::Margin;
 use books::slots::Slots;
 use books::time_book::TimeBook;
 use books::windows::Windows;
+use session::session::Session;
 use std::io;
 use stops::stop::Stop;
 use trials::calls::{ask, opened};
@@ -12,8 +13,8 @@ use trials::case::{Case, Rows};
 use trials::cost::questions;
 use trials::parts::first_sets;
 use trials::put::Put;
-use trials::returned::{after_closing, after_opening};
-use trials::said::{Said, closing_said};
+use trials::returned::{Again, after_closing, after_opening};
+use trials::said::{Ended, Said, Stopped};
 use trials::sheets;
 
 /// Prints a role's sets, or the stop of reading or parting.
@@ -23,15 +24,14 @@ pub(crate) fn sets(rt: &HostRuntime, title: &str, sheet: &[u8], role: usize) -> 
             let (count, masks) = found;
             println!(rt; "{title}: {count} sets, {masks:?}")
         }
-        Err(said) => println!(rt; "{title}: {said}"),
+        Err(stop) => println!(rt; "{title}: {}", Stopped(stop)),
     }
 }
 
 /// Tries each case.
 pub(crate) fn tried(rt: &HostRuntime, cases: &[Case]) -> io::Result<()> {
     for case in cases {
-        let title = case.title;
-        println!(rt; "{title}")?;
+        println!(rt; "{}", case.title)?;
         watched(rt, case)?;
     }
     Ok(())
@@ -40,68 +40,80 @@ pub(crate) fn tried(rt: &HostRuntime, cases: &[Case]) -> io::Result<()> {
 /// Reads the case's book and puts the case to a session with it.
 fn watched(rt: &HostRuntime, case: &Case) -> io::Result<()> {
     match case.rows {
-        Rows::Windows(bytes) => match Windows::read(bytes) {
-            Ok(book) => put(rt, case, book),
-            Err(fault) => unread(rt, fault),
-        },
-        Rows::Slots(bytes) => match Slots::read(bytes) {
-            Ok(book) => put(rt, case, book),
-            Err(fault) => unread(rt, fault),
-        },
-        Rows::NearWindows(bytes, by) => match Windows::read(bytes) {
-            Ok(book) => put(rt, case, Margin::over(book, by)),
-            Err(fault) => unread(rt, fault),
-        },
-        Rows::NearSlots(bytes, by) => match Slots::read(bytes) {
-            Ok(book) => put(rt, case, Margin::over(book, by)),
-            Err(fault) => unread(rt, fault),
-        },
+        Rows::Windows(bytes) => put(rt, case, Windows::read(bytes)),
+        Rows::Slots(bytes) => put(rt, case, Slots::read(bytes)),
+        Rows::NearWindows(bytes, by) => put(rt, case, near(Windows::read(bytes), by)),
+        Rows::NearSlots(bytes, by) => put(rt, case, near(Slots::read(bytes), by)),
     }
 }
 
-fn unread(rt: &HostRuntime, fault: BookFault) -> io::Result<()> {
-    let said = Said::Stopped(Stop::from(fault));
-    println!(rt; "  book: {said}")
+fn near<B: TimeBook + Drop>(book: Result<B, BookFault>, by: u32) -> Result<Margin<B>, BookFault> {
+    Ok(Margin::over(book?, by))
+}
+
+/// Does something with a book, or prints why its bytes are none.
+fn by_book<B, F: FnOnce(B) -> io::Result<()>>(
+    rt: &HostRuntime,
+    book: Result<B, BookFault>,
+    work: F,
+) -> io::Result<()>
+    requires { F.IsAlwaysCallable work }
+{
+    match book {
+        Ok(book) => work(book),
+        Err(fault) => println!(rt; "  book: {}", Stopped(Stop::from(fault))),
+    }
 }
 
 /// Opens the case's session, puts each call to it, and closes.
-fn put<B: TimeBook + Drop>(rt: &HostRuntime, case: &Case, book: B) -> io::Result<()> {
-    match opened(case.sheet, book, case.tick, case.depth) {
-        Ok(mut session) => {
-            for put in case.puts {
-                let said = ask(&mut session, *put);
-                println!(rt; "  {put}: {said}")?;
-            }
-            let said = closing_said(session.close().closing);
-            println!(rt; "  closing: {said}")
-        }
-        Err(said) => println!(rt; "  opening: {said}"),
+fn put<B: TimeBook + Drop>(
+    rt: &HostRuntime,
+    case: &Case,
+    book: Result<B, BookFault>,
+) -> io::Result<()> {
+    by_book(
+        rt,
+        book,
+        |book| match opened(case.sheet, book, case.tick, case.depth) {
+            Ok(session) => put_all(rt, case.puts, session),
+            Err(stop) => println!(rt; "  opening: {}", Stopped(stop)),
+        },
+    )
+}
+
+fn put_all<B: TimeBook + Drop>(
+    rt: &HostRuntime,
+    puts: &[Put],
+    mut session: Session<B>,
+) -> io::Result<()> {
+    for put in puts {
+        println!(rt; "  {put}: {}", Said(ask(&mut session, *put)))?;
     }
+    let closing = session.close().closing.map_err(Stop::from);
+    println!(rt; "  closing: {}", Ended(closing))
 }
 
 /// Sheet and book that come back from a stopped opening and from a closing.
 pub(crate) fn returned(rt: &HostRuntime) -> io::Result<()> {
     println!(rt; "sheet and book come back, and open again")?;
-    match Windows::read(sheets::WINDOWS) {
-        Ok(book) => pair(
-            rt,
-            "opening with depth 0",
-            after_opening(sheets::OVEN, book),
-        )?,
-        Err(fault) => unread(rt, fault)?,
-    }
-    match Windows::read(sheets::WINDOWS) {
-        Ok(book) => pair(rt, "closing after HEAT", after_closing(sheets::OVEN, book)),
-        Err(fault) => unread(rt, fault),
-    }
+    by_book(rt, Windows::read(sheets::WINDOWS), |book| {
+        let again = after_opening(sheets::OVEN, book);
+        pair(rt, "opening with depth 0", again)
+    })?;
+    by_book(rt, Windows::read(sheets::WINDOWS), |book| {
+        let again = after_closing(sheets::OVEN, book);
+        pair(rt, "closing after HEAT", again)
+    })
 }
 
-fn pair(rt: &HostRuntime, what: &str, said: Result<(Said, Said), Said>) -> io::Result<()> {
-    match said {
+fn pair(rt: &HostRuntime, what: &str, again: Result<Again, Stop>) -> io::Result<()> {
+    match again {
         Ok((first, second)) => println!(rt;
-            "  {what}: {first}, opened again, 0 0 1 0 at 103: {second}"
+            "  {what}: {}, opened again, 0 0 1 0 at 103: {}",
+            Ended(first),
+            Said(second)
         ),
-        Err(said) => println!(rt; "  {what}: {said}"),
+        Err(stop) => println!(rt; "  {what}: {}", Stopped(stop)),
     }
 }
 
@@ -135,11 +147,10 @@ pub(crate) fn reported(rt: &HostRuntime) -> io::Result<()> {
 }
 
 fn asked(rt: &HostRuntime, what: &str, sheet: &[u8], puts: &[Put]) -> io::Result<()> {
-    match Windows::read(sheets::LATE_WINDOW) {
-        Ok(book) => match questions(sheet, book, puts) {
+    by_book(rt, Windows::read(sheets::LATE_WINDOW), |book| {
+        match questions(sheet, book, puts) {
             Ok((holds, nexts)) => println!(rt; "  {what}: {holds} and {nexts}"),
-            Err(said) => println!(rt; "  {what}: {said}"),
-        },
-        Err(fault) => unread(rt, fault),
-    }
+            Err(stop) => println!(rt; "  {what}: {}", Stopped(stop)),
+        }
+    })
 }

@@ -3,11 +3,11 @@
 use crate::calls::{ask, opened};
 use crate::counted::Counted;
 use crate::put::Put;
-use crate::said::Said;
 use books::windows::Windows;
+use stops::stop::Stop;
 
 /// How often a session's book is asked `holds`, and `next`, for all that is put to the session.
-pub fn questions(bytes: &[u8], book: Windows, puts: &[Put]) -> Result<(u32, u32), Said> {
+pub fn questions(bytes: &[u8], book: Windows, puts: &[Put]) -> Result<(u32, u32), Stop> {
     let mut session = opened(bytes, Counted::over(book), 0, 8)?;
     for put in puts {
         let _ = ask(&mut session, *put);

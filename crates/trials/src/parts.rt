@@ -1,15 +1,15 @@
 //! What parting finds.
 
 use crate::calls::accepted;
-use crate::said::Said;
+use stops::stop::Stop;
 
-/// The masks of a role's sets, up to four, and how many it has.
-pub fn first_sets(bytes: &[u8], role: usize) -> Result<(usize, [u64; 4]), Said> {
+/// How many sets a role has, and the masks of its first four.
+pub fn first_sets(bytes: &[u8], role: usize) -> Result<(usize, [u64; 4]), Stop> {
     let accepted = accepted(bytes)?;
-    let Some(part) = accepted.part(role) else {
-        return Ok((0, [0; 4]));
-    };
     let mut masks = [0; 4];
+    let Some(part) = accepted.part(role) else {
+        return Ok((0, masks));
+    };
     for (mask, set) in masks.iter_mut().zip(part.found()) {
         *mask = set.states;
     }

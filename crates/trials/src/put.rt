@@ -1,23 +1,31 @@
 //! What is put to a session.
 
+use events::call::Call;
 use events::event::Event;
 use std::fmt;
 
-/// An event, as role, direction, partner, label and tick; or a role whose forecast is asked.
+/// A call as the tables of cases write it: an event, as role, direction, partner, label and tick; or a role whose forecast is asked.
+// The tables are constants, in which no function can make a call of these numbers.
 #[derive(Clone, Copy)]
 pub enum Put {
     Event(u8, u8, u8, u8, u32),
     Forecast(u8),
 }
 
-/// The event of these numbers.
-pub fn event(role: u8, direction: u8, partner: u8, label: u8, tick: u32) -> Event {
-    Event {
-        role,
-        direction,
-        partner,
-        label,
-        tick,
+impl From<Put> for Call {
+    fn from(put: Put) -> Call {
+        match put {
+            Put::Event(role, direction, partner, label, tick) => Call::Judge {
+                event: Event {
+                    role,
+                    direction,
+                    partner,
+                    label,
+                    tick,
+                },
+            },
+            Put::Forecast(role) => Call::Forecast { role },
+        }
     }
 }
 

@@ -1,42 +1,49 @@
-//! What a session says.
+//! What a session says, as it is printed.
 
-use events::closing::Early;
+use events::call::Reply;
 use std::fmt;
 use stops::stop::Stop;
 
-/// The answer to what was put: a pass with its number, a stop, a forecast, or that there is none.
+/// A stop: its number and its places.
 #[derive(Clone, Copy)]
-pub enum Said {
-    Passed(u32),
-    Stopped(Stop),
-    Next(u32),
-    Never,
-    Complete,
-}
+pub struct Stopped(pub Stop);
 
-/// What closing says.
-pub fn closing_said(closing: Result<(), Early>) -> Said {
-    match closing {
-        Ok(()) => Said::Complete,
-        Err(early) => Said::Stopped(Stop::from(early)),
+/// What is said to what was put: a pass with its number, a forecast, or that there is none; or a stop.
+#[derive(Clone, Copy)]
+pub struct Said(pub Result<Reply, Stop>);
+
+/// What closing says, and an opening that is only tried: 0, or a stop.
+#[derive(Clone, Copy)]
+pub struct Ended(pub Result<(), Stop>);
+
+impl fmt::Display for Stopped {
+    fn fmt<W: fmt::Write>(&self, f: &mut fmt::Formatter<W>) -> fmt::Result {
+        let Stop {
+            number,
+            first,
+            second,
+            ..
+        } = self.0;
+        write!(f, "STOP {number} {first} {second}")
     }
-}
-
-fn put_stop<W: fmt::Write>(stop: &Stop, f: &mut fmt::Formatter<W>) -> fmt::Result {
-    let number = stop.number;
-    let first = stop.first;
-    let second = stop.second;
-    write!(f, "STOP {number} {first} {second}")
 }
 
 impl fmt::Display for Said {
     fn fmt<W: fmt::Write>(&self, f: &mut fmt::Formatter<W>) -> fmt::Result {
-        match self {
-            Said::Passed(answer) => write!(f, "PASS {answer}"),
-            Said::Stopped(stop) => put_stop(stop, f),
-            Said::Next(tick) => write!(f, "{tick}"),
-            Said::Never => write!(f, "none"),
-            Said::Complete => write!(f, "0"),
+        match self.0 {
+            Ok(Reply::Passed { answer }) => write!(f, "PASS {answer}"),
+            Ok(Reply::Next { tick: Some(tick) }) => write!(f, "{tick}"),
+            Ok(Reply::Next { tick: None }) => write!(f, "none"),
+            Err(stop) => Stopped(stop).fmt(f),
+        }
+    }
+}
+
+impl fmt::Display for Ended {
+    fn fmt<W: fmt::Write>(&self, f: &mut fmt::Formatter<W>) -> fmt::Result {
+        match self.0 {
+            Ok(()) => write!(f, "0"),
+            Err(stop) => Stopped(stop).fmt(f),
         }
     }
 }
