@@ -4,7 +4,7 @@ use Rattle.std.proofs.lemmas.Bool.{cond-true, cond-false}
 use Rattle.sheet.specs.declared.fault.ReadFault.{ReadFault}
 use Rattle.sheet.specs.Refuse.{unless, first}
 
-pub first_unless : (holds : Bool) (fault : ReadFault) (later : Option ReadFault) → first (unless holds fault) later ≡ cond holds later (Some fault)
+first_unless : (holds : Bool) (fault : ReadFault) (later : Option ReadFault) → first (unless holds fault) later ≡ cond holds later (Some fault)
 first_unless true fault later = refl
 first_unless false fault later = refl
 

@@ -1,5 +1,5 @@
 -- The pieces of a sheet that has been read.
-use Rattle.std.proofs.Common.{◌≡◌, ℕ, ◌+◌, ◌<◌, Bool, true, false, List, [], ◌++◌, map, length, get_or, take, drop, is_some, Some, None, Option, sym, refl, ap, ◌∙◌, subst, arith}
+use Rattle.std.proofs.Common.{◌≡◌, ℕ, ◌+◌, ◌<◌, false, List, [], ◌++◌, map, length, get_or, take, drop, is_some, Some, None, Option, sym, refl, ap, ◌∙◌, subst, arith}
 use Rattle.std.specs.List.{flat_map}
 use Rattle.std.proofs.lemmas.List.{get_or_append_left, get_or-append-add, get_or-map}
 use Rattle.sheet.specs.declared.counts.Counts.{Counts}
@@ -15,12 +15,18 @@ use Rattle.sheet.proofs.Spans.{length-table, length_cut}
 use Rattle.sheet.proofs.Whole.{clear_fault}
 use Rattle.reading.specs.declared.piece.Kind.{Kind}
 use Rattle.reading.specs.declared.piece.Kind.TheVariants.{Role, Label, State}
+use Rattle.reading.specs.declared.read_sheet.ReadSheet.{ReadSheet}
 use Rattle.reading.specs.Handing.{counts_of, piece_count_of, first_pair, piece_of, offset_of}
 use Rattle.reading.specs.Places.{Tiled, nowhere}
+use Rattle.reading.specs.Reads.{bytes_of}
 
 pub none_from_test : (o : Option ReadFault) → is_some o ≡ false → o ≡ None
 none_from_test None e = refl
-none_from_test (Some f) e = let z : ◌≡◌ {A = Bool} true false = e in cc
+none_from_test (Some f) e = absurd cc
+
+-- reading finds no fault in a sheet's bytes
+pub clean_bytes : (s : ReadSheet) → fault (bytes_of s) ≡ None
+clean_bytes s = none_from_test (fault (bytes_of s)) s.sound
 
 -- the piece of a kind among all pieces
 pub piece_among : (sh : Sheet) (kind : Kind) (n : ℕ) → n < piece_count_of (counts_of sh) kind → get_or (pieces sh) (first_pair (counts_of sh) kind + n) [] ≡ piece_of sh kind n

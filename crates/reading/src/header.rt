@@ -43,6 +43,7 @@ pub(crate) fn counts_in(bytes: &[u8]) -> Counts
 }
 
 // Stop 3.
+#[tactic(auto, unfolding(sheet::specs::Refuse::count_fault))]
 fn check_counts(counts: Counts) -> Result<(), ReadFault>
     ensures { fault_of result ≡ count_fault counts }
 {
@@ -63,6 +64,7 @@ fn check_counts(counts: Counts) -> Result<(), ReadFault>
 
 impl<'a> Paired<'a> {
     // The header: stops 1 to 3.
+    #[tactic(auto, unfolding(sheet::specs::Refuse::header_fault))]
     pub(crate) fn read(bytes: &'a [u8]) -> Result<Paired<'a>, ReadFault>
         ensures judged { fault_of result ≡ header_fault bytes.now }
         ensures value { IfOk result (λ p. p.bytes.now ≡ bytes.now) }

@@ -49,7 +49,7 @@ impl Tiled<'_> {
         requires { (first ≤ end) × (end ≤ piece_count_in self.paired.counts) }
         ensures { fault_of result ≡ name_fault self.entry.paired.bytes.now first [] (between first end (table self.entry.paired.bytes.now)) }
     {
-        // A loop, since each name is refused by its own pair, and for one of two faults.
+        // A `for` with `?`: two checks of one name, each with a fault of its own, would stand in one closure.
         for pair in first..end {
             let name = self.piece(pair);
             check_bytes(name)?;

@@ -22,6 +22,7 @@ fn number_at(bytes: &[u8], at: usize) -> usize
 }
 
 // Whether a pair's piece begins at the offset that is due, has a length that its kind may have, and ends by the limit.
+#[tactic(auto, unfolding(sheet::specs::Refuse::placed))]
 fn placed(limit: usize, named: bool, at: usize, span: Span) -> bool
     requires size_bound { span.size < 2 ^ 16 }
     requires offset_bound { span.offset < 2 ^ 16 }
@@ -43,6 +44,7 @@ fn has_size(named: bool, size: usize) -> bool
 
 impl<'a> Paired<'a> {
     // Where the piece of a pair lies.
+    #[tactic(auto, using(sheet::proofs::Spans::table_at))]
     pub(crate) fn span(self, pair: usize) -> Span
         requires { pair < piece_count_in self.counts }
         ensures value { result ≡ slice_index_or (table self.entry.bytes.now) pair nowhere }
@@ -63,7 +65,7 @@ impl<'a> Paired<'a> {
         let names = name_count(self.counts);
         let count = piece_count(self.counts);
         let mut at = first_offset(self.counts);
-        // A loop with `?` would be no plainer: the place that is due is carried from pair to pair.
+        // A `for`: the offset that is due goes from pair to pair, and `try_fold` would carry it through a closure.
         for pair in 0..count {
             let span = self.span(pair);
             if !placed(limit, pair < names, at, span) {

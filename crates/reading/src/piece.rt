@@ -66,6 +66,7 @@ impl<'a> Piece<'a> {
 
 impl ReadSheet {
     /// The sheet's own bytes, in which reading finds no fault.
+    #[tactic(auto, using(crate::proofs::Handing::none_from_test))]
     pub fn bytes(&self) -> &[u8]
         ensures value { result.now ≡ bytes_of self.now }
         ensures sound { fault result.now ≡ None }
@@ -74,6 +75,7 @@ impl ReadSheet {
     }
 
     /// How many roles, labels, states and time rows the sheet has.
+    #[tactic(auto, using(crate::proofs::Handing::counts_are))]
     pub fn counts(&self) -> Counts
         ensures value { result ≡ counts_of (sheet_of self.now) }
         ensures read { result ≡ counts_read (bytes_of self.now) }
@@ -106,6 +108,7 @@ impl ReadSheet {
     }
 
     // The sheet's bytes and counts, as the checks have them.
+    #[tactic(auto, using(sheet::proofs::Clean::pairs_there, crate::proofs::Handing::tiled_from_clean))]
     pub(crate) fn tiled(&self) -> Tiled<'_>
         ensures { result.paired.bytes.now ≡ bytes_of self.now }
     {

@@ -23,6 +23,7 @@ pub struct Exchange<'a> {
 }
 
 /// The exchange that a state's body says, or none where the state is an end.
+#[tactic(auto, using(crate::proofs::Bodies::state_more))]
 pub fn split_state(body: &[u8]) -> Option<Exchange<'_>>
     ensures { MatchOption result (state_of body.now ≡ ended) (λ x. (state_of body.now ≡ exchange x.sender x.receiver (branches_in x.branches.now)) × (length x.branches.now + 2 ≡ length body.now)) }
 {
@@ -91,6 +92,7 @@ fn is_row(counts: Counts, number: u8) -> bool
 }
 
 // Stop 7 in the branch at this offset, whose label is to be at least `low`.
+#[tactic(auto, unfolding(sheet::specs::Refuse::branch_fault))]
 fn check_branch(counts: Counts, offset: usize, low: usize, branch: Branch) -> Result<(), ReadFault>
     requires { offset + 5 < 2 ^ 64 }
     ensures { fault_of result ≡ branch_fault counts offset low branch }
@@ -154,7 +156,7 @@ impl Tiled<'_> {
         ensures { fault_of result ≡ states_fault self.entry.paired.counts self.entry.paired.bytes.now (state_spans self.entry.paired.bytes.now) }
     {
         let counts = self.paired.counts;
-        // A loop with `?`: `try_for_each` would say the same with a closure around it.
+        // A `for` with `?`, where `try_for_each` would put the same call into a closure with a `requires` of its own.
         for pair in name_count(counts)..piece_count(counts) {
             check_state(counts, self.piece(pair))?;
         }

@@ -16,8 +16,7 @@ use Rattle.reading.proofs.read.read.Goals as goal
 refused : (bytes : List ℕ) (f : ReadFault) → fault bytes ≡ Some f → (sh : Sheet) → Encodes bytes sh → ⊥
 refused bytes f e sh encodes =
     let clean : fault bytes ≡ None = complete bytes sh encodes in
-    let z : ◌≡◌ {A = ℕ} 0 1 = cc in
-    omega arith
+    cc
 
 reads : (bytes : List ℕ) (s : ReadSheet) → Bytes bytes → fault bytes ≡ None → bytes_of s ≡ bytes → Reads bytes s
 reads bytes s fits clean is = record {

@@ -8,7 +8,7 @@ use Rattle.reading.specs.declared.piece.Kind.TheVariants.{Label}
 use Rattle.reading.specs.Handing.{piece_count_of}
 use Rattle.reading.specs.Places.{nowhere}
 use Rattle.reading.specs.Reads.{bytes_of, sheet_of}
-use Rattle.reading.proofs.Handing.{none_from_test, counts_are, piece_is}
+use Rattle.reading.proofs.Handing.{clean_bytes, counts_are, piece_is}
 use Rattle.reading.proofs.Labels.{labels_distinct, finds_first, exactly}
 use Rattle.reading.proofs.read_sheet.ReadSheet.find_label.Goals as goal
 
@@ -27,7 +27,7 @@ module _ (whole : List ℕ) (clean : fault whole ≡ None) (label : ℕ) (h : la
 pub position-requires-clause-callable : goal.position-requires-clause-callable
 position-requires-clause-callable c =
     let whole = bytes_of c.args.self.now in
-    let clean = none_from_test (fault whole) c.args.self.now.sound in
+    let clean = clean_bytes c.args.self.now in
     let first = c.first-first.ensures ∙ ap (λ k. k.roles) c.counts.ensures.read in
     let count = c.count.ensures ∙ ap (λ k. k.labels) (sym (counts_are whole clean)) in
     let pairs = ap piece_count_in (c.tiled-tiled.result.paired.counted ∙ ap counts c.tiled-tiled.ensures) in
@@ -36,7 +36,7 @@ position-requires-clause-callable c =
 pub returns : goal.returns
 returns c =
     let whole = bytes_of c.args.self.now in
-    let clean = none_from_test (fault whole) c.args.self.now.sound in
+    let clean = clean_bytes c.args.self.now in
     let bytes = c.tiled-tiled.result.paired.bytes.now in
     let name = c.args.name.now in
     let first = c.first-first.result in

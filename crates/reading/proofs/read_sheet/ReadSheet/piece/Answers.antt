@@ -9,7 +9,7 @@ use Rattle.reading.specs.declared.piece.Kind.{Kind}
 use Rattle.reading.specs.Handing.{Part, counts_of, piece_count_of, first_pair, piece_of, seen, handed}
 use Rattle.reading.specs.Reads.{bytes_of, sheet_of}
 use Rattle.reading.specs.Places.{nowhere}
-use Rattle.reading.proofs.Handing.{none_from_test, counts_are, pair_below, piece_is, piece_offset, piece_own}
+use Rattle.reading.proofs.Handing.{clean_bytes, counts_are, pair_below, piece_is, piece_offset, piece_own}
 use Rattle.reading.proofs.read_sheet.ReadSheet.piece.Goals as goal
 
 past_end : (sh : Sheet) (kind : Kind) (n : ℕ) → piece_count_of (counts_of sh) kind ≤ n → None ≡ handed sh kind n
@@ -53,7 +53,7 @@ module _ (bytes : List ℕ) (clean : fault bytes ≡ None) (kind : Kind) (n : �
 pub piece-requires : goal.piece-requires
 piece-requires c =
     let bytes = bytes_of c.args.self.now in
-    let clean = none_from_test (fault bytes) c.args.self.now.sound in
+    let clean = clean_bytes c.args.self.now in
     let kind = c.args.kind in
     let inside = subst (λ m. c.args.number < m) c.count.ensures c.if-number-count.false in
     below bytes clean kind c.args.number inside c.tiled.result.paired.counts c.first.result
@@ -70,7 +70,7 @@ returns-then-number-count c =
 pub returns : goal.returns
 returns c =
     let bytes = bytes_of c.args.self.now in
-    let clean = none_from_test (fault bytes) c.args.self.now.sound in
+    let clean = clean_bytes c.args.self.now in
     let kind = c.args.kind in
     let n = c.args.number in
     let inside = subst (λ m. n < m) c.count.ensures c.if-number-count.false in
