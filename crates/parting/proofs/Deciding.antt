@@ -1,5 +1,5 @@
 -- The tests of judging decide the points of soundness.
-use Rattle.std.proofs.Common.{◌≡◌, ℕ, ◌<◌, Bool, true, false, ◌&&◌, eqb, ◌⊎◌, List, [], ◌∷◌, length, get_or, Some, None, Decides, Option, sym, refl, ap, ◌∙◌, subst, inl, inr, arith}
+use Rattle.std.proofs.Common.{◌≡◌, ℕ, ◌<◌, Bool, true, false, ◌&&◌, eqb, ◌⊎◌, List, [], ◌∷◌, get_or, Some, None, Decides, Option, sym, refl, ap, ◌∙◌, subst, inl, inr, arith}
 use mathlib.Core.Bool.{beq}
 use mathlib.Core.List.{Memᴰ}
 use Rattle.std.specs.List.{All, list_all, range_with_len}
@@ -90,9 +90,9 @@ one_to [] p = refl
 one_to (h ∷ t) p = (every_decides (is_same_side h) (Sided h) (side_decides h) (h ∷ t)).1 (λ x i. p h (Memᴰ.head refl) x i)
 
 -- the first act with a label
-first_is : (l : ℕ) (xs : List Act) (f : Act) → first_with l xs ≡ Some f → Memᴰ f xs × (f.label ≡ l)
-first_is l [] f e = absurd cc
-first_is l (x ∷ xs) f e = go (λ q. first_is l xs f q) (cases_Bool (eqb x.label l))
+pub first_act : (l : ℕ) (xs : List Act) (f : Act) → first_with l xs ≡ Some f → Memᴰ f xs × (f.label ≡ l)
+first_act l [] f e = absurd cc
+first_act l (x ∷ xs) f e = go (λ q. first_act l xs f q) (cases_Bool (eqb x.label l))
   where
     go : (first_with l xs ≡ Some f → Memᴰ f xs × (f.label ≡ l)) → (eqb x.label l ≡ true) ⊎ (eqb x.label l ≡ false) → Memᴰ f (x ∷ xs) × (f.label ≡ l)
     go below (inl t) =
@@ -112,9 +112,6 @@ first_found l (y ∷ xs) x i e = go (λ j. first_found l xs x j e) (cases_Bool (
     go below (inl t) i = (y, cond-true (eqb y.label l) (Some y) (first_with l xs) t)
     go below (inr t) (Memᴰ.head q) = absurd (both_ways (eqb y.label l) t (eq-eqb y.label l (ap (λ (a : Act). a.label) (sym q) ∙ e)))
     go below (inr t) (Memᴰ.tail j) = let r = below j in (r.0, cond-false (eqb y.label l) (Some y) (first_with l xs) t ∙ r.1)
-
-pub first_act : (l : ℕ) (xs : List Act) (f : Act) → first_with l xs ≡ Some f → Memᴰ f xs × (f.label ≡ l)
-first_act l xs f e = first_is l xs f e
 
 abbrev pub Alike : Act → Act → Type 0
 Alike x y = x.label ≡ y.label → Timed x y
@@ -139,7 +136,7 @@ unclashed_from xs e x i y j l =
 
 pub unclashed_to : (xs : List Act) → Pairs xs Alike → unclashed xs ≡ true
 unclashed_to xs p = (every_decides (λ a. agrees (first_with a.label xs) a) (Agreed xs) (agrees_decides xs) xs).1
-    (λ x i f e. let r = first_is x.label xs f e in p f r.0 x i r.1)
+    (λ x i f e. let r = first_act x.label xs f e in p f r.0 x i r.1)
 
 -- the labels of a state
 abbrev pub Labelled : List Act → ℕ → ℕ → Type 0

@@ -6,10 +6,10 @@ use Rattle.std.proofs.lemmas.Nat.{and_le_r}
 use Rattle.std.proofs.lemmas.Bool.{eq-eqb, eqb-true, cases_Bool, cond-true, cond-false, or_cases, or_left, or_right}
 use Rattle.parting.specs.declared.edge.Edge.{Edge}
 use Rattle.parting.specs.Masks.{has, add, In}
-use Rattle.parting.specs.Spread.{Reach, start, along, spread, passed}
+use Rattle.parting.specs.Spread.{Reach, along, spread, passed}
 use Rattle.parting.proofs.Bits.{has_add}
 use Rattle.parting.proofs.Same.{decided_same}
-use Rattle.parting.proofs.Spreading.{spread_decides}
+use Rattle.parting.proofs.Spreading.{Closed, reach_in, spread_decides}
 
 pub add_grows : (k X : ℕ) → X ≤ add k X
 unfolding add
@@ -39,10 +39,6 @@ step_within X e s x = go (has X e.from)
 pub pass_within : (X : ℕ) (es : List Edge) (s : ℕ) → In X s → In (passed X es) s
 pass_within X [] s x = x
 pass_within X (e ∷ es) s x = pass_within (step X e) es s (step_within X e s x)
-
--- with the start of each edge, its end
-abbrev Closed : ℕ → List Edge → Type 0
-Closed X es = (e : Edge) → Memᴰ e es → In X e.from → In X e.to
 
 pub pass_closed : (X : ℕ) (es : List Edge) → passed X es ≡ X → Closed X es
 pass_closed X [] q e i x = elim i [ ]
@@ -77,10 +73,6 @@ module _ (all : List Edge) (Y : ℕ → Type 0) where
   pub pass_reach : (es : List Edge) → ((e : Edge) → Memᴰ e es → Memᴰ e all) → (X : ℕ) → ((s : ℕ) → In X s → Reach all Y s) → (s : ℕ) → In (passed X es) s → Reach all Y s
   pass_reach [] sub X r s x = r s x
   pass_reach (e ∷ es) sub X r s x = pass_reach es (λ f j. sub f (Memᴰ.tail j)) (step X e) (step_reach X e (sub e (Memᴰ.head refl)) r) s x
-
-reach_in : (es : List Edge) (Y : ℕ → Type 0) (X : ℕ) → Closed X es → ((s : ℕ) → Y s → In X s) → (s : ℕ) → Reach es Y s → In X s
-reach_in es Y X c w s (start y) = w s y
-reach_in es Y X c w s (along e i r q) = subst (In X) q (c e i (reach_in es Y X c w e.from r))
 
 -- what the passes keep: the start is in, and all that is in can be reached
 pub record Passing (es : List Edge) (from mask : ℕ) : Type 0 where

@@ -2,19 +2,20 @@
 use Rattle.std.proofs.Common.{◌≡◌, ℕ, zero, suc, ◌+◌, ◌<◌, ◌≤◌, Bool, true, false, cond, not, ◌||◌, eqb, ◌⊎◌, List, [], ◌∷◌, length, Decides, sym, refl, ap, ◌∙◌, subst, inl, inr, arith}
 use mathlib.Core.List.{Memᴰ}
 use Rattle.std.proofs.lemmas.Bool.{eq-eqb, eqb-true, cases_Bool, cond-true, cond-false, and_parts, and_from, and_right, not_from_true, or_cases, or_right, or_left, not-true, not_from_false, both_ways}
-use Rattle.parting.specs.Masks.{has, add}
+use Rattle.parting.specs.Masks.{has, add, In}
 use Rattle.parting.specs.declared.edge.Edge.{Edge}
 use Rattle.parting.specs.Spread.{Reach, start, along, leaves, grow, fill, spread}
 use Rattle.parting.proofs.Bits.{has_add}
 
-abbrev In : ℕ → ℕ → Type 0
-In X s = has X s ≡ true
+-- with the start of each edge, its end
+abbrev pub Closed : ℕ → List Edge → Type 0
+Closed X es = (e : Edge) → Memᴰ e es → In X e.from → In X e.to
 
-abbrev Closed : ℕ → List Edge → Type 0
-Closed X es = (e : Edge) → Memᴰ e es → leaves X e ≡ false
+abbrev Still : ℕ → List Edge → Type 0
+Still X es = (e : Edge) → Memᴰ e es → leaves X e ≡ false
 
 pub data Grown (X : ℕ) (es : List Edge) : Type 0 where
-  whole : Closed X es → grow X es ≡ X → Grown X es
+  whole : Still X es → grow X es ≡ X → Grown X es
   more : (e : Edge) → Memᴰ e es → leaves X e ≡ true → grow X es ≡ add e.to X → Grown X es
 
 grown : (X : ℕ) (es : List Edge) → Grown X es
@@ -27,7 +28,7 @@ grown X (e ∷ es) = go (cases_Bool (leaves X e)) (grown X es)
     go (inr n) (more f i y q) = more f (Memᴰ.tail i) y (cond-false (leaves X e) (add e.to X) (grow X es) n ∙ q)
     go (inr n) (whole c q) = whole all (cond-false (leaves X e) (add e.to X) (grow X es) n ∙ q)
       where
-        all : Closed X (e ∷ es)
+        all : Still X (e ∷ es)
         all f (Memᴰ.head r) = rw r n
         all f (Memᴰ.tail i) = c f i
 
@@ -83,7 +84,7 @@ leaves_so : (X : ℕ) (e : Edge) → In X e.from → has X e.to ≡ false → le
 unfolding leaves
 leaves_so X e x n = and_from (has X e.from) (not (has X e.to)) x (not_from_false (has X e.to) n)
 
-fill_closed : (n X : ℕ) (es : List Edge) → lacking X es ≤ n → Closed (fill n es X) es
+fill_closed : (n X : ℕ) (es : List Edge) → lacking X es ≤ n → Still (fill n es X) es
 unfolding fill
 fill_closed zero X es l e i = go (cases_Bool (has X e.to))
   where
@@ -130,18 +131,22 @@ module _ (es : List Edge) (Y : ℕ → Type 0) where
   fill_reach zero X r s x = r s x
   fill_reach (suc n) X r s x = fill_reach n (grow X es) (grow_reach X r) s x
 
-reach_closed : (es : List Edge) (Y : ℕ → Type 0) (Z : ℕ) → Closed Z es → ((s : ℕ) → Y s → In Z s) → (s : ℕ) → Reach es Y s → In Z s
-reach_closed es Y Z c w s (start y) = w s y
-reach_closed es Y Z c w s (along e i r q) = rw (← q) (go (reach_closed es Y Z c w e.from r) (cases_Bool (has Z e.to)))
+-- where no edge leads out, each has its end in, whose start is in
+closed_from_still : (X : ℕ) (es : List Edge) → Still X es → Closed X es
+closed_from_still X es c e i x = go (cases_Bool (has X e.to))
   where
-    go : In Z e.from → (has Z e.to ≡ true) ⊎ (has Z e.to ≡ false) → In Z e.to
-    go x (inl y) = y
-    go x (inr n) = absurd (both_ways (leaves Z e) (c e i) (leaves_so Z e x n))
+    go : (has X e.to ≡ true) ⊎ (has X e.to ≡ false) → In X e.to
+    go (inl y) = y
+    go (inr n) = absurd (both_ways (leaves X e) (c e i) (leaves_so X e x n))
+
+pub reach_in : (es : List Edge) (Y : ℕ → Type 0) (X : ℕ) → Closed X es → ((s : ℕ) → Y s → In X s) → (s : ℕ) → Reach es Y s → In X s
+reach_in es Y X c w s (start y) = w s y
+reach_in es Y X c w s (along e i r q) = subst (In X) q (c e i (reach_in es Y X c w e.from r))
 
 -- the bits of `spread` are what can be reached from those of X
 pub spread_decides : (es : List Edge) (X s : ℕ) → Decides (has (spread es X) s) (Reach es (λ t. has X t ≡ true) s)
 unfolding spread
 spread_decides es X s = (
   fill_reach es (λ t. has X t ≡ true) (length es) X (λ t x. start x) s,
-  reach_closed es (λ t. has X t ≡ true) (fill (length es) es X) (fill_closed (length es) X es (lacking_all X es)) (λ t x. fill_within (length es) X es t x) s,
+  reach_in es (λ t. has X t ≡ true) (fill (length es) es X) (closed_from_still (fill (length es) es X) es (fill_closed (length es) X es (lacking_all X es))) (λ t x. fill_within (length es) X es t x) s,
 )
