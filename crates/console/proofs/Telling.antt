@@ -20,6 +20,7 @@ use Rattle.session.specs.Calls.{call_of, calls, passed, Prescribed}
 use Rattle.session.specs.Outcomes.{Closes}
 use Rattle.events.specs.declared.closing.Early.{Early}
 use Rattle.console.specs.Faults.{stop_for, watch_fault}
+use Rattle.console.specs.Log.{unanswered}
 use Rattle.console.specs.Told.{Watched, PartsTold, Told}
 use Rattle.console.specs.Transcript.{transcript}
 use Rattle.console.specs.declared.fault.ConsoleFault.{ConsoleFault}
@@ -28,32 +29,10 @@ use Rattle.events.specs.declared.call.Call.{Call}
 use Rattle.events.specs.declared.call.Call.TheVariants.{Judge}
 use Rattle.events.specs.declared.call.Entry.{Entry}
 
-abbrev pub fresh : Event → Entry
-fresh e = record { call = Judge e; answer = None }
-
-pub log_more : (log log' : List Entry) (bytes rest : List ℕ) (e : Event) (all : List Call) → log' ≡ log ++ (fresh e ∷ []) → event_bytes e ++ rest ≡ bytes → calls log ++ map Judge (events_in bytes) ≡ all
-    → calls log' ++ map Judge (events_in rest) ≡ all
-log_more log log' bytes rest e all pushed first inv =
-    ap (λ l. calls l ++ map Judge (events_in rest)) pushed
-    ∙ ap (λ w. w ++ map Judge (events_in rest)) (map_push call_of log (fresh e))
-    ∙ append_assoc (calls log) (Judge e ∷ []) (map Judge (events_in rest))
-    ∙ ap (λ es. calls log ++ map Judge es) (sym (event_next e rest) ∙ ap events_in first)
-    ∙ inv
-
--- fewer than eight bytes are no event
-none_left : (bytes : List ℕ) → length bytes < 8 → events_in bytes ≡ []
-none_left [] h = refl
-none_left (r ∷ []) h = refl
-none_left (r ∷ s ∷ []) h = refl
-none_left (r ∷ s ∷ p ∷ []) h = refl
-none_left (r ∷ s ∷ p ∷ l ∷ []) h = refl
-none_left (r ∷ s ∷ p ∷ l ∷ a ∷ []) h = refl
-none_left (r ∷ s ∷ p ∷ l ∷ a ∷ b ∷ []) h = refl
-none_left (r ∷ s ∷ p ∷ l ∷ a ∷ b ∷ c ∷ []) h = refl
-none_left (r ∷ s ∷ p ∷ l ∷ a ∷ b ∷ c ∷ d ∷ rest) h = absurd (omega arith)
-
-pub log_all : (log : List Entry) (rest : List ℕ) (all : List Call) → length rest < 8 → calls log ++ map Judge (events_in rest) ≡ all → calls log ≡ all
-log_all log rest all few inv = sym (append-nil (calls log)) ∙ ap (λ es. calls log ++ map Judge es) (sym (none_left rest few)) ∙ inv
+-- entries that are not answered ask to judge each event
+pub asks_events : (es : List Event) → calls (map unanswered es) ≡ map Judge es
+asks_events [] = refl
+asks_events (e ∷ es) = ap (λ l. Judge e ∷ l) (asks_events es)
 
 -- what was added is what the parts are told as
 pub shown_by : {T E : Type 0} (r : Result T E) (x z t : List ℕ) (P : List ℕ → Type 0) → P t → IfOk r (λ _. z ≡ x ++ t) → IfOk r (λ _. (shown : List ℕ) × (z ≡ x ++ shown) × P shown)

@@ -1,3 +1,4 @@
+pub mod Log
 pub mod Faults
 pub mod Transcript
 pub mod Told

@@ -7,6 +7,8 @@ ghost use Rattle.console.specs.Faults.{stop_for};
 use books::fault::BookFault;
 use events::fault::SessionFault;
 use parting::fault::PartFault;
+use parting::refused::Refused;
+use session::unopened::Unopened;
 use sheet::fault::ReadFault;
 use stops::stop::Stop;
 
@@ -54,6 +56,22 @@ impl From<SessionFault> for ConsoleFault {
 
     fn from(fault: SessionFault) -> ConsoleFault {
         ConsoleFault::Session(fault)
+    }
+}
+
+impl From<Refused> for ConsoleFault {
+    ghost from_gives = { λ refused r. r ≡ Parting refused.fault };
+
+    fn from(refused: Refused) -> ConsoleFault {
+        ConsoleFault::Parting(refused.fault)
+    }
+}
+
+impl<B: Drop> From<Unopened<B>> for ConsoleFault {
+    ghost from_gives = { λ unopened r. r ≡ Session unopened.fault };
+
+    fn from(unopened: Unopened<B>) -> ConsoleFault {
+        ConsoleFault::Session(unopened.fault)
     }
 }
 

@@ -2,25 +2,20 @@
 
 ghost use Rattle.std.specs.Prelude.{◌≡◌, map, IfOk};
 ghost use Rattle.input.specs.Events.{events_in};
-ghost use Rattle.session.specs.Calls.{calls};
-ghost use Rattle.events.specs.declared.call.Call.TheVariants.{Judge};
+ghost use Rattle.console.specs.Log.{unanswered};
 
 use events::call::{Call, Entry};
-use input::event::decode;
+use input::event::Events;
 use std::alloc::{AllocError, Global};
 
 /// A call for each event, not answered yet.
 pub(crate) fn log_of(heap: Global, events: &[u8]) -> Result<Vec<Entry>, AllocError>
-    ensures { IfOk result (λ log. calls log.items ≡ map Judge (events_in events.now)) }
+    ensures { IfOk result (λ log. log.items ≡ map unanswered (events_in events.now)) }
 {
-    let mut log = Vec::new(heap);
-    let mut rest = events;
-    while let Some((event, after)) = decode(rest) {
-        log.push(Entry {
+    Events::new(events)
+        .map(|event| Entry {
             call: Call::Judge { event },
             answer: None,
-        })?;
-        rest = after;
-    }
-    Ok(log)
+        })
+        .collect(heap)
 }

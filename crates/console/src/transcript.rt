@@ -11,7 +11,7 @@ use sheet::counts::Counts;
 use std::alloc::AllocError;
 use stops::stop::Stop;
 use text::growing::Text;
-use text::stop_line::word_for;
+use text::stop_line::put_named;
 
 /// Puts the transcript of a session: the sheet's counts, a line for each answer, and what closing answered.
 pub(crate) fn put_transcript(
@@ -34,7 +34,7 @@ fn put_sheet(text: &mut Text, counts: Counts) -> Result<(), AllocError>
         roles,
         labels,
         states,
-        rows: _,
+        ..
     } = counts;
     writeln!(text, "SHEET {roles} {labels} {states}")
 }
@@ -42,8 +42,8 @@ fn put_sheet(text: &mut Text, counts: Counts) -> Result<(), AllocError>
 fn put_entries(text: &mut Text, log: &[Entry]) -> Result<(), AllocError>
     ensures { Adds text.old text.new result (entry_lines 1 log.now) }
 {
-    for i in 0..log.len() {
-        put_answer(text, i + 1, log[i].answer)?;
+    for (i, entry) in log.iter().enumerate() {
+        put_answer(text, i + 1, entry.answer)?;
     }
     Ok(())
 }
@@ -66,9 +66,8 @@ fn put_answer(
 fn put_stopped(text: &mut Text, number: usize, fault: SessionFault) -> Result<(), AllocError>
     ensures { Adds text.old text.new result (answer_line number (Some (Err fault))) }
 {
-    let stop = Stop::from(fault).number;
-    write!(text, "{number} STOP {stop} ")?;
-    text.put(word_for(stop))?;
+    write!(text, "{number} STOP ")?;
+    put_named(text, Stop::from(fault).number)?;
     writeln!(text)
 }
 
@@ -84,9 +83,8 @@ fn put_end(text: &mut Text, closing: Result<(), Early>) -> Result<(), AllocError
 fn put_early(text: &mut Text, stop: Stop) -> Result<(), AllocError>
     ensures { Adds text.old text.new result (early_line stop) }
 {
-    let number = stop.number;
     let role = stop.first;
-    write!(text, "END {number} ")?;
-    text.put(word_for(number))?;
+    write!(text, "END ")?;
+    put_named(text, stop.number)?;
     writeln!(text, " {role}")
 }

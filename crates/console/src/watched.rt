@@ -33,10 +33,8 @@ fn accept<B: ReadBook + Drop>(sheet: &[u8], book: &[u8]) -> Result<(Accepted, B)
 {
     let sheet = read(sheet)?;
     let book = B::read_book(book)?;
-    match part(sheet) {
-        Ok(accepted) => Ok((accepted, book)),
-        Err(refused) => Err(ConsoleFault::from(refused.fault)),
-    }
+    let accepted = part(sheet)?;
+    Ok((accepted, book))
 }
 
 /// What a script's events are told with besides their answers.
@@ -57,11 +55,9 @@ pub(crate) fn watch_script<B: ReadBook + Drop>(
 {
     let (accepted, book) = accept::<B>(script.sheet, script.book)?;
     let counts = accepted.counts();
-    match watch(accepted, book, script.tick, DEPTH, log) {
-        Ok(closed) => Ok(Seen {
-            counts,
-            closing: closed.closing,
-        }),
-        Err(unopened) => Err(ConsoleFault::from(unopened.fault)),
-    }
+    let closed = watch(accepted, book, script.tick, DEPTH, log)?;
+    Ok(Seen {
+        counts,
+        closing: closed.closing,
+    })
 }

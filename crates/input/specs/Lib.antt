@@ -2,3 +2,4 @@ pub mod Bytes
 pub mod Events
 pub mod Laid
 pub mod Split
+pub mod EventsLeft

@@ -1,7 +1,7 @@
 //! The line that tells a stop.
 
 ghost use Rattle.std.specs.Prelude.{◌≡◌};
-ghost use Rattle.text.specs.StopLine.{word_of_number, line_of_stop};
+ghost use Rattle.text.specs.StopLine.{word_of_number, named, line_of_stop};
 ghost use Rattle.text.specs.Growing.{Adds};
 
 use crate::growing::Text;
@@ -16,6 +16,14 @@ pub fn word_for(number: u8) -> &'static [u8]
     word(number).unwrap_or(b"")
 }
 
+/// Puts the number of a stop and its word.
+pub fn put_named(text: &mut Text, number: u8) -> Result<(), AllocError>
+    ensures { Adds text.old text.new result (named number) }
+{
+    write!(text, "{number} ")?;
+    text.put(word_for(number))
+}
+
 /// Puts a stop's line: its number, its word and its two places.
 // No `Display` of a stop: the words are bytes, and a formatter takes text alone.
 pub fn put_stop(text: &mut Text, stop: Stop) -> Result<(), AllocError>
@@ -27,7 +35,7 @@ pub fn put_stop(text: &mut Text, stop: Stop) -> Result<(), AllocError>
         second,
         ..
     } = stop;
-    write!(text, "STOP {number} ")?;
-    text.put(word_for(number))?;
+    write!(text, "STOP ")?;
+    put_named(text, number)?;
     writeln!(text, " {first} {second}")
 }

@@ -6,7 +6,7 @@ use Rattle.input.specs.Events.{events_in}
 use Rattle.session.specs.Calls.{calls}
 use Rattle.console.specs.Told.{PartsTold}
 use Rattle.console.specs.Transcript.{transcript}
-use Rattle.console.proofs.Telling.{shown_by, parts_watched, parts_stopped}
+use Rattle.console.proofs.Telling.{asks_events, shown_by, parts_watched, parts_stopped}
 use Rattle.console.proofs.run.put_script.Goals as goal
 
 pub returns-in-Ok : goal.returns-in-Ok
@@ -21,7 +21,7 @@ returns-in-Ok g c =
     let watched = c.in-Ok.ensures in
     -- what the session wrote into the slice is what the log then holds
     let same : shown ≡ log = c.as_slice.ensures.value ∙ take_at log _ _ (c.watch_script.auto.log ∙ c.as_mut_slice.ensures.len) in
-    let asked = watched.asked ∙ ap calls c.as_mut_slice.ensures.value ∙ c.in_ok-log.ensures in
+    let asked = watched.asked ∙ ap calls (c.as_mut_slice.ensures.value ∙ c.in_ok-log.ensures) ∙ asks_events events in
     let text = transcript seen.counts shown seen.closing in
     shown_by c.put_transcript.result (said c.args.text.now) _ text (PartsTold g.B.ReadBook.refusal g.B.ReadBook.rows_in g.B.ReadBook.allows sheet book tick events)
     (parts_watched g.B.ReadBook.refusal g.B.ReadBook.rows_in g.B.ReadBook.allows sheet book tick events text seen.counts log shown seen.closing
