@@ -81,30 +81,18 @@ fn right<B: TimeBook, P: Plain>(book: &B, plain: &P, row: u8, value: u32) -> boo
 fn searched<P: Plain>(plain: &P, row: usize, value: u32, next: Option<u32>) -> bool {
     let from = value as u64;
     let end = (from + SPAN).min(LAST + 1);
-    for tried in from..end {
-        if plain.contains(row, tried) {
-            return next == Some(tried as u32);
+    match ((from..end).find(|tried| plain.contains(row, *tried)), next) {
+        (Some(first), _) => next.is_some_and(|found| found as u64 == first),
+        (None, Some(found)) => {
+            plain.contains(row, found as u64) && empty(plain, row, end, found as u64)
         }
-    }
-    match next {
-        Some(found) => plain.contains(row, found as u64) && empty(plain, row, end, found as u64),
-        None => empty(plain, row, end, LAST + 1),
+        (None, None) => empty(plain, row, end, LAST + 1),
     }
 }
 
 /// Whether the values tried from one number to below another are none of the row's.
 fn empty<P: Plain>(plain: &P, row: usize, from: u64, to: u64) -> bool {
-    for back in 1..SPAN {
-        let tried = to.saturating_sub(back);
-        if from <= tried && plain.contains(row, tried) {
-            return false;
-        }
-    }
-    for part in 1..SPAN {
-        let tried = from.saturating_add(part.wrapping_mul(14_316_557));
-        if tried < to && plain.contains(row, tried) {
-            return false;
-        }
-    }
-    true
+    let is_inside = |tried: u64| from <= tried && tried < to && plain.contains(row, tried);
+    !(1..SPAN).any(|back| is_inside(to.saturating_sub(back)))
+        && !(1..SPAN).any(|part| is_inside(from.saturating_add(part.wrapping_mul(14_316_557))))
 }

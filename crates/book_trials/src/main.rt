@@ -2,17 +2,21 @@
 #![tactic(auto)]
 
 mod compare;
-mod counted;
+mod kinds;
 mod plain;
 mod readings;
 mod tables;
-mod trials;
 
 use arguments::task::run;
 use books::cases::worked_cases;
 use books::fault::BookFault;
+use books::margin::Margin;
+use books::slots::Slots;
+use books::windows::Windows;
 use compare::Tally;
+use plain::{PlainNear, PlainRows};
 use std::io;
+use tables::{SLOTS, WINDOWS, bytes_of};
 
 /// The margins' widths that are tried over another firm's book, the widest among them.
 const WIDTHS: [(u32, u32); 8] = [
@@ -42,22 +46,38 @@ fn main(rt: HostRuntime) -> io::Result<()> {
 }
 
 fn try_all(rt: &HostRuntime) -> io::Result<()> {
-    report(rt, "windows", trials::windows())?;
-    report(rt, "slots", trials::slots())?;
-    report(rt, "windows, margin 0", trials::near_windows(0))?;
-    report(rt, "windows, margin 2", trials::near_windows(2))?;
-    report(rt, "windows, margin 50", trials::near_windows(50))?;
-    report(rt, "slots, margin 3", trials::near_slots(3))?;
-    report(rt, "slots, margin 60", trials::near_slots(60))?;
-    report(rt, "marks", Ok(trials::marked()))?;
+    let windows = PlainRows { rows: &WINDOWS };
+    let slots = PlainRows { rows: &SLOTS };
+    let window_bytes: [u8; 96] = bytes_of(&WINDOWS);
+    let slot_bytes: [u8; 144] = bytes_of(&SLOTS);
+    let near_windows = |by| {
+        let book = Windows::read(&window_bytes).map(|below| Margin::over(below, by));
+        kinds::beside(book, &PlainNear { below: windows, by })
+    };
+    let near_slots = |by| {
+        let book = Slots::read(&slot_bytes).map(|below| Margin::over(below, by));
+        kinds::beside(book, &PlainNear { below: slots, by })
+    };
+    report(
+        rt,
+        "windows",
+        kinds::beside(Windows::read(&window_bytes), &windows),
+    )?;
+    report(rt, "slots", kinds::beside(Slots::read(&slot_bytes), &slots))?;
+    report(rt, "windows, margin 0", near_windows(0))?;
+    report(rt, "windows, margin 2", near_windows(2))?;
+    report(rt, "windows, margin 50", near_windows(50))?;
+    report(rt, "slots, margin 3", near_slots(3))?;
+    report(rt, "slots, margin 60", near_slots(60))?;
+    report(rt, "marks", Ok(kinds::marked()))?;
     for (inner, outer) in WIDTHS {
         println!(rt; "margin {outer} over margin {inner}")?;
         report(
             rt,
             "marks, two margins",
-            Ok(trials::piled_marks(inner, outer)),
+            Ok(kinds::piled_marks(inner, outer)),
         )?;
-        report(rt, "marks, merged", Ok(trials::merged_marks(inner, outer)))?;
+        report(rt, "marks, merged", Ok(kinds::merged_marks(inner, outer)))?;
     }
     report(rt, "lengths of bytes", Ok(readings::lengths()))?;
     report(rt, "first bad rows", Ok(readings::first_bad_rows()))?;
@@ -77,7 +97,7 @@ fn report(rt: &HostRuntime, name: &str, outcome: Result<Tally, BookFault>) -> io
 /// Prints how many questions two questions to a margin cost the book below, and two to a margin over it.
 fn costs(rt: &HostRuntime) -> io::Result<()> {
     for by in [0u32, 3, 4_294_967_295] {
-        match trials::questions(by) {
+        match kinds::questions(by) {
             Ok((once, twice)) => println!(rt;
                 "margin {by}: {once} questions below, piled {twice}"
             )?,

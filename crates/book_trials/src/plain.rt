@@ -11,34 +11,24 @@ pub(crate) trait Plain {
     fn contains(&self, row: usize, value: u64) -> bool;
 }
 
-/// Rows of low and high.
-#[derive(Drop)]
-pub(crate) struct PlainWindows<'a> {
-    pub rows: &'a [(u32, u32)],
+/// The set of clock values of one row.
+pub(crate) trait PlainRow {
+    /// Whether the value is in the set.
+    fn contains(&self, value: u64) -> bool;
 }
 
-impl<'a> Plain for PlainWindows<'a> {
-    fn contains(&self, row: usize, value: u64) -> bool {
-        if row >= self.rows.len() {
-            return false;
-        }
-        let (low, high) = self.rows[row];
+/// Low and high.
+impl PlainRow for [u32; 2] {
+    fn contains(&self, value: u64) -> bool {
+        let [low, high] = *self;
         low as u64 <= value && value <= high as u64
     }
 }
 
-/// Rows of period, first and width.
-#[derive(Drop)]
-pub(crate) struct PlainSlots<'a> {
-    pub rows: &'a [(u32, u32, u32)],
-}
-
-impl<'a> Plain for PlainSlots<'a> {
-    fn contains(&self, row: usize, value: u64) -> bool {
-        if row >= self.rows.len() {
-            return false;
-        }
-        let (period, first, width) = self.rows[row];
+/// Period, first and width.
+impl PlainRow for [u32; 3] {
+    fn contains(&self, value: u64) -> bool {
+        let [period, first, width] = *self;
         if period == 0 {
             return false;
         }
@@ -47,21 +37,17 @@ impl<'a> Plain for PlainSlots<'a> {
     }
 }
 
-/// The marks of each row.
-#[derive(Drop)]
-pub(crate) struct PlainMarks<'a> {
-    pub rows: usize,
-    pub marks: &'a [Mark],
+/// Rows of one kind.
+#[derive(Clone, Copy)]
+pub(crate) struct PlainRows<'a, R> {
+    pub rows: &'a [R],
 }
 
-impl<'a> Plain for PlainMarks<'a> {
+impl<'a, R: PlainRow> Plain for PlainRows<'a, R> {
     fn contains(&self, row: usize, value: u64) -> bool {
-        for mark in self.marks {
-            if row < self.rows && mark.row as usize == row && mark.value as u64 == value {
-                return true;
-            }
-        }
-        false
+        self.rows
+            .get(row)
+            .is_some_and(|found| found.contains(value))
     }
 }
 
@@ -76,12 +62,7 @@ impl<P: Plain> Plain for PlainNear<P> {
     fn contains(&self, row: usize, value: u64) -> bool {
         let by = self.by as u64;
         let end = value.saturating_add(by).min(LAST);
-        for near in value.saturating_sub(by)..end + 1 {
-            if self.below.contains(row, near) {
-                return true;
-            }
-        }
-        false
+        (value.saturating_sub(by)..end + 1).any(|near| self.below.contains(row, near))
     }
 }
 
@@ -94,22 +75,21 @@ pub(crate) struct PlainReach<'a> {
     pub outer: u32,
 }
 
+impl<'a> PlainReach<'a> {
+    /// Whether the value is one of those that this mark becomes.
+    fn reaches(&self, mark: &Mark, value: u64) -> bool {
+        let at = mark.value as u64;
+        let low = at
+            .saturating_sub(self.inner as u64)
+            .saturating_sub(self.outer as u64);
+        let high = (at + self.inner as u64).min(LAST) + self.outer as u64;
+        low <= value && value <= high.min(LAST)
+    }
+}
+
 impl<'a> Plain for PlainReach<'a> {
     fn contains(&self, row: usize, value: u64) -> bool {
-        for mark in self.marks {
-            let at = mark.value as u64;
-            let low = at
-                .saturating_sub(self.inner as u64)
-                .saturating_sub(self.outer as u64);
-            let high = (at + self.inner as u64).min(LAST) + self.outer as u64;
-            if row < self.rows
-                && mark.row as usize == row
-                && low <= value
-                && value <= high.min(LAST)
-            {
-                return true;
-            }
-        }
-        false
+        row < self.rows
+            && self.marks.iter().any(|mark| mark.row as usize == row && self.reaches(mark, value))
     }
 }

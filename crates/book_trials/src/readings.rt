@@ -1,7 +1,10 @@
 //! Bytes that are no book, and the fault that each has.
 
 use crate::compare::Tally;
-use crate::tables::put;
+use crate::tables::bytes_of;
+use book_rows::kind::RowKind;
+use book_rows::slot::Slot;
+use book_rows::window::Window;
 use books::fault::BookFault;
 use books::slots::Slots;
 use books::windows::Windows;
@@ -16,19 +19,14 @@ const BAD_WINDOW: [u32; 2] = [1, 0];
 /// A slot whose first + width passes 32 bits; in 32 bits the sum would be 0.
 const BAD_SLOT: [u32; 3] = [4_294_967_295, 4_294_967_295, 1];
 
-/// The fault of these bytes as a window book.
-fn window_fault(bytes: &[u8]) -> Option<BookFault> {
-    match Windows::read(bytes) {
-        Ok(_) => None,
-        Err(fault) => Some(fault),
-    }
-}
-
-/// The fault of these bytes as a slot book.
-fn slot_fault(bytes: &[u8]) -> Option<BookFault> {
-    match Slots::read(bytes) {
-        Ok(_) => None,
-        Err(fault) => Some(fault),
+/// The fault of so many zeros as a book of such rows, where a row of zeros is legal or not.
+fn fault_of_zeros<R: RowKind>(given: usize, legal: bool) -> Option<BookFault> {
+    if given % R::SIZE != 0 || given / R::SIZE > 64 {
+        Some(BookFault::Rows { given })
+    } else if given > 0 && !legal {
+        Some(BookFault::Row { row: 0 })
+    } else {
+        None
     }
 }
 
@@ -38,58 +36,25 @@ pub(crate) fn lengths() -> Tally {
     let zeros = [0; MOST];
     for given in 0..MOST + 1 {
         let bytes = &zeros[0..given];
-        let windows = if given % 8 != 0 || given > 512 {
-            Some(BookFault::Rows { given })
-        } else {
-            None
-        };
-        let slots = if given % 12 != 0 || given > 768 {
-            Some(BookFault::Rows { given })
-        } else if given > 0 {
-            Some(BookFault::Row { row: 0 })
-        } else {
-            None
-        };
-        tally.note(window_fault(bytes) == windows);
-        tally.note(slot_fault(bytes) == slots);
+        tally.note(Windows::read(bytes).err() == fault_of_zeros::<Window>(given, true));
+        tally.note(Slots::read(bytes).err() == fault_of_zeros::<Slot>(given, false));
     }
     tally
-}
-
-/// 64 rows of windows, bad from this one on.
-fn bad_windows(first: usize) -> [u8; 512] {
-    let mut bytes = [0; 512];
-    for row in 0..64usize {
-        let window = if row < first { [0, 0] } else { BAD_WINDOW };
-        put(&mut bytes, 8 * row, window[0]);
-        put(&mut bytes, 8 * row + 4, window[1]);
-    }
-    bytes
-}
-
-/// 64 rows of slots, bad from this one on.
-fn bad_slots(first: usize) -> [u8; 768] {
-    let mut bytes = [0; 768];
-    for row in 0..64usize {
-        let slot = if row < first { [1, 0, 1] } else { BAD_SLOT };
-        put(&mut bytes, 12 * row, slot[0]);
-        put(&mut bytes, 12 * row + 4, slot[1]);
-        put(&mut bytes, 12 * row + 8, slot[2]);
-    }
-    bytes
 }
 
 /// Books of 64 rows, of which each in turn is the first bad one, and last a good book.
 pub(crate) fn first_bad_rows() -> Tally {
     let mut tally = Tally::new();
     for first in 0..65usize {
-        let expected = if first < 64 {
-            Some(BookFault::Row { row: first })
-        } else {
-            None
-        };
-        tally.note(window_fault(&bad_windows(first)) == expected);
-        tally.note(slot_fault(&bad_slots(first)) == expected);
+        let expected = (first < 64).then_some(BookFault::Row { row: first });
+        let mut windows = [[0, 0]; 64];
+        let mut slots = [[1, 0, 1]; 64];
+        windows[first..].fill(BAD_WINDOW);
+        slots[first..].fill(BAD_SLOT);
+        let window_bytes: [u8; 512] = bytes_of(&windows);
+        let slot_bytes: [u8; 768] = bytes_of(&slots);
+        tally.note(Windows::read(&window_bytes).err() == expected);
+        tally.note(Slots::read(&slot_bytes).err() == expected);
     }
     tally
 }
@@ -98,20 +63,14 @@ pub(crate) fn first_bad_rows() -> Tally {
 pub(crate) fn stops() -> Tally {
     let mut tally = Tally::new();
     for place in 0..MOST {
-        let rows = Stop {
+        let stop = |number| Stop {
             layer: Layer::Books,
-            number: 11,
+            number,
             first: place,
             second: 0,
         };
-        let row = Stop {
-            layer: Layer::Books,
-            number: 12,
-            first: place,
-            second: 0,
-        };
-        tally.note(Stop::from(BookFault::Rows { given: place }) == rows);
-        tally.note(Stop::from(BookFault::Row { row: place }) == row);
+        tally.note(Stop::from(BookFault::Rows { given: place }) == stop(11));
+        tally.note(Stop::from(BookFault::Row { row: place }) == stop(12));
     }
     tally
 }

@@ -5,35 +5,35 @@ use mark_book::Mark;
 const LAST: u32 = 4_294_967_295;
 
 /// Windows: one value, few, all, and the ends of the range.
-pub(crate) static WINDOWS: [(u32, u32); 12] = [
-    (0, 0),
-    (0, 5),
-    (20, 40),
-    (40, 40),
-    (0, LAST),
-    (LAST, LAST),
-    (LAST - 3, LAST),
-    (5, LAST),
-    (1, 999),
-    (2_147_483_647, 2_147_483_649),
-    (0, LAST - 1),
-    (700, 100_000),
+pub(crate) static WINDOWS: [[u32; 2]; 12] = [
+    [0, 0],
+    [0, 5],
+    [20, 40],
+    [40, 40],
+    [0, LAST],
+    [LAST, LAST],
+    [LAST - 3, LAST],
+    [5, LAST],
+    [1, 999],
+    [2_147_483_647, 2_147_483_649],
+    [0, LAST - 1],
+    [700, 100_000],
 ];
 
 /// Slots: period 1, the longest period, a width that fills the period, and slots at the period's ends.
-pub(crate) static SLOTS: [(u32, u32, u32); 12] = [
-    (1, 0, 1),
-    (100, 10, 5),
-    (LAST, 0, 1),
-    (LAST, 0, LAST),
-    (LAST, LAST - 1, 1),
-    (LAST, 5, LAST - 5),
-    (100, 0, 100),
-    (100, 95, 5),
-    (7, 3, 2),
-    (2, 1, 1),
-    (2_147_483_648, 2_147_483_640, 8),
-    (65_536, 65_000, 30),
+pub(crate) static SLOTS: [[u32; 3]; 12] = [
+    [1, 0, 1],
+    [100, 10, 5],
+    [LAST, 0, 1],
+    [LAST, 0, LAST],
+    [LAST, LAST - 1, 1],
+    [LAST, 5, LAST - 5],
+    [100, 0, 100],
+    [100, 95, 5],
+    [7, 3, 2],
+    [2, 1, 1],
+    [2_147_483_648, 2_147_483_640, 8],
+    [65_536, 65_000, 30],
 ];
 
 /// Marks in three rows, the ends of the range among them.
@@ -74,40 +74,15 @@ pub(crate) const ENDS: [u32; 12] = [
 
 /// The marks as a book takes them.
 pub(crate) fn marks() -> [Mark; 16] {
-    let mut marks = [Mark { row: 0, value: 0 }; 16];
-    for i in 0..16usize {
-        let (row, value) = MARKS[i];
-        marks[i] = Mark { row, value };
-    }
-    marks
+    MARKS.map(|(row, value)| Mark { row, value })
 }
 
-/// Writes the number at this place, high byte first, where there is room.
-pub(crate) fn put(bytes: &mut [u8], at: usize, number: u32) {
-    if at < bytes.len() && bytes.len() - at >= 4 {
-        bytes[at..at + 4].copy_from_slice(&number.to_be_bytes());
-    }
-}
-
-/// The windows as bytes.
-pub(crate) fn window_bytes() -> [u8; 96] {
-    let mut bytes = [0; 96];
-    for i in 0..12usize {
-        let (low, high) = WINDOWS[i];
-        put(&mut bytes, 8 * i, low);
-        put(&mut bytes, 8 * i + 4, high);
-    }
-    bytes
-}
-
-/// The slots as bytes.
-pub(crate) fn slot_bytes() -> [u8; 144] {
-    let mut bytes = [0; 144];
-    for i in 0..12usize {
-        let (period, first, width) = SLOTS[i];
-        put(&mut bytes, 12 * i, period);
-        put(&mut bytes, 12 * i + 4, first);
-        put(&mut bytes, 12 * i + 8, width);
+/// The rows' numbers as bytes, high byte first, as many as there is room for.
+pub(crate) fn bytes_of<const N: usize, const SIZE: usize>(rows: &[[u32; N]]) -> [u8; SIZE] {
+    let mut bytes = [0; SIZE];
+    let (places, _) = bytes.as_chunks_mut::<4>();
+    for (place, number) in places.iter_mut().zip(rows.iter().flatten()) {
+        *place = number.to_be_bytes();
     }
     bytes
 }

@@ -2,16 +2,15 @@
 
 ghost use Rattle.std.specs.Prelude.{◌≡◌, ℕ, ◌/◌, List, length, IfOk, Option};
 ghost use Rattle.std.specs.Result.{result_err};
+ghost use Rattle.book_rows.specs.Bytes.{RowsAdmit};
 ghost use Rattle.books.specs.declared.fault.BookFault.{BookFault as AnyFault};
 ghost use Rattle.books.specs.Faults.{fault_of};
 ghost use Rattle.books.specs.Sets.{Same};
-ghost use Rattle.books.specs.Slots.{slot_rule, SlotAdmits};
-ghost use Rattle.books.specs.Windows.{window_rule, WindowAdmits};
 
+use book_rows::kind::RowKind;
 use books::fault::BookFault;
-use books::slots::Slots;
+use books::row_book::RowBook;
 use books::time_book::TimeBook;
-use books::windows::Windows;
 
 /// A kind of book that stands in bytes.
 pub trait ReadBook: TimeBook + Sized {
@@ -30,26 +29,14 @@ pub trait ReadBook: TimeBook + Sized {
         ensures book { IfOk result (λ b. (Self.TimeBook.count b ≡ rows_in bytes.now) × ((row v : ℕ) → Same (Self.TimeBook.admits b row v) (allows bytes.now row v))) };
 }
 
-impl ReadBook for Windows {
-    ghost refusal = { fault_of 8 window_rule };
+impl<R: RowKind> ReadBook for RowBook<R> {
+    ghost refusal = { fault_of R.RowKind.SIZE R.RowKind.rule };
 
-    ghost rows_in = { λ bytes. length bytes / 8 };
+    ghost rows_in = { λ bytes. length bytes / R.RowKind.SIZE };
 
-    ghost allows = { WindowAdmits };
+    ghost allows = { RowsAdmit R.RowKind.SIZE R.RowKind.meant };
 
-    fn read_book(bytes: &[u8]) -> Result<Windows, BookFault> {
-        Windows::read(bytes)
-    }
-}
-
-impl ReadBook for Slots {
-    ghost refusal = { fault_of 12 slot_rule };
-
-    ghost rows_in = { λ bytes. length bytes / 12 };
-
-    ghost allows = { SlotAdmits };
-
-    fn read_book(bytes: &[u8]) -> Result<Slots, BookFault> {
-        Slots::read(bytes)
+    fn read_book(bytes: &[u8]) -> Result<RowBook<R>, BookFault> {
+        RowBook::read(bytes)
     }
 }

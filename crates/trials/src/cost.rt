@@ -1,17 +1,21 @@
 //! How often a session asks its book.
 
 use crate::calls::{ask, opened};
-use crate::counted::Counted;
+use crate::counted::{Asked, Counted};
 use crate::put::Put;
 use books::windows::Windows;
 use stops::stop::Stop;
 
 /// How often a session's book is asked `holds`, and `next`, for all that is put to the session.
 pub fn questions(bytes: &[u8], book: Windows, puts: &[Put]) -> Result<(u32, u32), Stop> {
-    let mut session = opened(bytes, Counted::over(book), 0, 8)?;
+    let asked = Asked::new();
+    let counted = Counted {
+        below: book,
+        asked: &asked,
+    };
+    let mut session = opened(bytes, counted, 0, 8)?;
     for put in puts {
         let _ = ask(&mut session, *put);
     }
-    let book = session.close().book;
-    Ok((book.holds.get(), book.nexts.get()))
+    Ok((asked.holds.get(), asked.nexts.get()))
 }

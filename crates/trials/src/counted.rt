@@ -5,26 +5,36 @@ ghost use Rattle.trials.specs.Counts.{counted_bounded};
 use books::time_book::TimeBook;
 use std::cell::Cell;
 
-/// The book below, with how often it was asked whether a value holds, and how often for the next.
+/// How often a book was asked whether a value holds, and how often for the next.
 #[derive(Drop)]
-pub struct Counted<B> {
-    pub below: B,
+pub struct Asked {
     pub holds: Cell<u32>,
     pub nexts: Cell<u32>,
 }
 
-impl<B> Counted<B> {
-    /// The book below, not asked yet.
-    pub fn over(below: B) -> Counted<B> {
-        Counted {
-            below,
+impl Asked {
+    /// Not asked yet.
+    pub fn new() -> Asked {
+        Asked {
             holds: Cell::new(0),
             nexts: Cell::new(0),
         }
     }
+
+    /// How often in all.
+    pub fn total(&self) -> u32 {
+        self.holds.get().wrapping_add(self.nexts.get())
+    }
 }
 
-impl<B: TimeBook> TimeBook for Counted<B> {
+/// The book below. Each question to it is counted.
+#[derive(Drop)]
+pub struct Counted<'a, B> {
+    pub below: B,
+    pub asked: &'a Asked,
+}
+
+impl<'a, B: TimeBook> TimeBook for Counted<'a, B> {
     ghost count = { λ c. B.TimeBook.count c.below };
 
     ghost admits = { λ c. B.TimeBook.admits c.below };
@@ -36,12 +46,12 @@ impl<B: TimeBook> TimeBook for Counted<B> {
     }
 
     fn holds(&self, row: u8, value: u32) -> bool {
-        self.holds.set(self.holds.get().wrapping_add(1));
+        self.asked.holds.set(self.asked.holds.get().wrapping_add(1));
         self.below.holds(row, value)
     }
 
     fn next(&self, row: u8, value: u32) -> Option<u32> {
-        self.nexts.set(self.nexts.get().wrapping_add(1));
+        self.asked.nexts.set(self.asked.nexts.get().wrapping_add(1));
         self.below.next(row, value)
     }
 }
