@@ -55,11 +55,11 @@ fn move_of(here: &SetView<'_>, found: &[u64], label: u8) -> Option<Move>
 fn moves_of(here: &SetView<'_>, found: &[u64]) -> [Option<Move>; 32]
     ensures { (label : ℕ) → label < 32 → slice_index_or result label None ≡ move_under here.now.silent.now found.now here.now.acts label }
 {
-    array::from_fn(|label|
-        requires { label < 32 }
-    {
-        move_of(here, found, label as u8)
-    })
+    array::from_fn(
+        |label|
+            requires { label < 32 }
+        { move_of(here, found, label as u8) },
+    )
 }
 
 fn local_set(view: &View, found: &[u64], mask: u64) -> LocalSet
