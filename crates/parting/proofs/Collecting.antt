@@ -1,23 +1,12 @@
 -- A loop that gathers what is listed of each element.
-use Rattle.std.proofs.Common.{◌≡◌, ℕ, ◌+◌, ◌<◌, ◌≤◌, Bool, true, false, cond, List, [], ◌∷◌, ◌++◌, length, get_or, drop, filter, sym, refl, ap, ◌∙◌}
+use Rattle.std.proofs.Common.{◌≡◌, ℕ, Bool, true, false, cond, List, [], ◌∷◌, ◌++◌, drop, filter, refl, ap}
 use Rattle.std.specs.Bool.{then_some}
 use Rattle.std.specs.List.{flat_map}
-use Rattle.std.proofs.lemmas.List.{append-nil, append_assoc, at_drop_more, at_drop_all}
 use Rattle.parting.specs.Lists.{listed}
 
 -- what was found in the first i elements, and what is listed of the others
 abbrev pub Collecting : {X Y : Type 0} → (X → List Y) → List X → List Y → ℕ → Type 0
 Collecting f xs found i = found ++ flat_map f (drop i xs) ≡ flat_map f xs
-
-module _ {X Y : Type 0} (f : X → List Y) (xs : List X) (found : List Y) (i : ℕ) where
-  pub collecting_more : (x : X) → i < length xs → Collecting f xs found i → Collecting f xs (found ++ f (get_or xs i x)) (i + 1)
-  collecting_more x h c =
-      append_assoc found (f (get_or xs i x)) (flat_map f (drop (i + 1) xs))
-      ∙ ap (λ l. found ++ l) (sym (at_drop_more (flat_map f) xs i x h))
-      ∙ c
-
-  pub collecting_all : length xs ≤ i → Collecting f xs found i → found ≡ flat_map f xs
-  collecting_all h c = sym (append-nil found) ∙ ap (λ l. found ++ l) (sym (at_drop_all (flat_map f) xs i h)) ∙ c
 
 -- those that pass a test
 abbrev pub kept : {X : Type 0} → (X → Bool) → X → List X
