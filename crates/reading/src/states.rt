@@ -121,6 +121,7 @@ fn check_branches(counts: Counts, branches: Stretch<'_>) -> Result<(), ReadFault
 {
     let mut at = branches.offset;
     let mut low = 0;
+    // The offset and the lowest label that is due go from branch to branch, and `try_fold` would carry both through a closure.
     for branch in Branches::new(branches.bytes) {
         check_branch(counts, at, low, branch)?;
         at += 5;

@@ -38,6 +38,8 @@ fn changed(changes: &[(usize, u8)]) -> [u8; 77] {
 mod tests {
     use super::*;
     use reading::piece::{Kind, Piece};
+    use reading::states::{Branches, split_state};
+    use sheet::branch::Branch;
     use std::process::Abort;
     use std::test::Fail;
 
@@ -277,6 +279,43 @@ mod tests {
         assert_eq!(rt; sheet.find_label(b"HEA"), None);
         assert_eq!(rt; sheet.find_label(b""), None);
         assert_eq!(rt; sheet.find_label(&OVEN), None);
+        Ok(())
+    }
+
+    #[test]
+    fn counts_of_kinds(rt: HostRuntime) -> Result<(), Fail> {
+        let Ok(sheet) = read(&OVEN[0..76]) else {
+            return Err(Fail::new("the oven sheet is refused"));
+        };
+        assert_eq!(rt; sheet.count(Kind::Role), 2);
+        assert_eq!(rt; sheet.count(Kind::Label), 3);
+        assert_eq!(rt; sheet.count(Kind::State), 3);
+        Ok(())
+    }
+
+    #[test]
+    fn branches_of_a_state(rt: HostRuntime) -> Result<(), Fail> {
+        let Some(exchange) = split_state(&OVEN[64..76]) else {
+            return Err(Fail::new("state 1 is an end"));
+        };
+        let mut branches = Branches::new(exchange.branches);
+        let hot = Branch {
+            label: 1,
+            next: 2,
+            send: 1,
+            receive: 255,
+            resets: 0,
+        };
+        let fault = Branch {
+            label: 2,
+            next: 2,
+            send: 255,
+            receive: 255,
+            resets: 0,
+        };
+        assert_eq!(rt; branches.next(), Some(hot));
+        assert_eq!(rt; branches.next(), Some(fault));
+        assert_eq!(rt; branches.next(), None);
         Ok(())
     }
 
