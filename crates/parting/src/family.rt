@@ -13,6 +13,7 @@ use arrayvec::ArrayVec;
 
 impl SetView<'_> {
     // Enters the set's successor under a label, if the role has an act with that label there.
+    #[tactic(auto, unfolding(crate::specs::Family::label_entered))]
     fn enter_successor(&self, label: u8, search: &mut Search<'_>) -> Result<(), NoRoom>
         ensures value { outcome result search.new.found.items ≡ label_entered self.now.silent.now self.now.acts search.old.found.items label }
         ensures judged { search.new.judged ≡ search.old.judged }
@@ -28,6 +29,7 @@ impl SetView<'_> {
         ensures value { outcome result search.new.found.items ≡ followed self.now.silent.now self.now.acts 0 labels search.old.found.items }
         ensures judged { search.new.judged ≡ search.old.judged }
     {
+        // A label is its number: there is no list to go over.
         for label in 0..labels {
             self.enter_successor(label, search)?;
         }
@@ -73,6 +75,7 @@ impl Role {
         let mut search = Search::new(slots);
         // The first set has room.
         let _ = search.enter(self.view.silent.closure(1));
+        // No `for`: a visit may add sets to those that wait.
         while let Some((set, states)) = search.next() {
             self.visit(set, states, &mut search)?;
         }

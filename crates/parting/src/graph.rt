@@ -27,6 +27,7 @@ fn body_of(piece: Option<Piece<'_>>) -> &[u8]
 }
 
 // The bytes of a state.
+#[tactic(auto, using(crate::proofs::Decoding::body_handed))]
 fn state_body(sheet: &ReadSheet, state: u8) -> &[u8]
     ensures { result.now ≡ body_read (slice_index_or (sheet_of sheet.now).states state ended) }
 {
@@ -56,6 +57,7 @@ pub(crate) fn decode(sheet: &ReadSheet) -> Transitions
     ensures { result ≡ places (sheet_of sheet.now) }
 {
     let mut transitions = ArrayVec::new();
+    // A state is its number, by which its bytes are handed out.
     for state in 0..sheet.counts().states {
         decode_state(state_body(sheet, state), state, &mut transitions);
     }

@@ -12,6 +12,7 @@ pub enum LocalKind {
 /// What an action with a label asks of the role's clock, and the number of the set that follows.
 #[derive(Clone, Copy)]
 pub struct Move {
+    // The sheet's number of a row, 255 for any time: time books are asked by it.
     pub row: u8,
     pub reset: bool,
     pub next: usize,
@@ -22,6 +23,7 @@ pub struct Move {
 pub struct LocalSet {
     pub states: u64,
     pub kind: LocalKind,
+    // One entry for each label that a sheet can have: there is no length to keep.
     pub moves: [Option<Move>; 32],
 }
 

@@ -25,6 +25,7 @@ pub fn part(sheet: ReadSheet) -> Result<Accepted, Refused>
     ensures judged { fault_of result ≡ part_fault (sheet_of sheet) }
     ensures whole { MatchResult result (λ a. CanBeParted (sheet_of sheet) × PartsOf (sheet_of sheet) a) (λ e. (CanBeParted (sheet_of sheet) → ⊥) × (e.sheet ≡ sheet)) }
 {
+    // A `match`: both arms use the sheet up.
     match parts_of(&sheet) {
         Ok(parts) => Ok(Accepted {
             counts: sheet.counts(),
@@ -42,6 +43,7 @@ fn parts_of(sheet: &ReadSheet) -> Result<ArrayVec<Part, 6>, PartFault>
     let counts = sheet.counts();
     let transitions = decode(sheet);
     let mut parts = ArrayVec::new();
+    // A role is its number: there is no list to go over.
     for role in 0..counts.roles {
         let part = Role::of(&transitions, role, counts.labels).part()?;
         parts.push(part);

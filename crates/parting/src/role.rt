@@ -35,6 +35,7 @@ impl Role {
     pub(crate) fn part(&self) -> Result<Part, PartFault>
         ensures { PartIn (seen self.now.view) self.now.number self.now.labels result }
     {
+        // A queue stands in slots of its user's.
         let mut slots = [0u64; 32];
         let sets = self.sets(&mut slots)?;
         Ok(table(&self.view, sets.as_slice()))

@@ -41,6 +41,7 @@ fn position(found: &[u64], set: u64) -> usize
         .unwrap_or(found.len())
 }
 
+#[tactic(auto, unfolding(crate::specs::Tables::move_under))]
 fn move_of(here: &SetView<'_>, found: &[u64], label: u8) -> Option<Move>
     ensures { result ≡ move_under here.now.silent.now found.now here.now.acts label }
 {
