@@ -25,6 +25,7 @@ impl SetView<'_> {
     }
 
     // Enters the set's successors, labels rising.
+    #[tactic(auto, using(crate::proofs::Following::follows_some, crate::proofs::Following::follows_none, crate::proofs::Following::follows_all))]
     fn follow(&self, labels: u8, search: &mut Search<'_>) -> Result<(), NoRoom>
         ensures value { outcome result search.new.found.items ≡ followed self.now.silent.now self.now.acts 0 labels search.old.found.items }
         ensures judged { search.new.judged ≡ search.old.judged }

@@ -16,9 +16,6 @@ one_more v found table i s h e below k l d = go (cases_eq k i)
     go (inl q) = subst (λ n. Entry v found (get_or found n 0) (get_or (set table i s) n d)) (sym q) (subst (Entry v found (get_or found i 0)) (sym (get_or-set_same table i s d h)) e)
     go (inr n) = subst (Entry v found (get_or found k 0)) (sym (get_or-set_other table i k s d n)) (below k (omega arith) d)
 
-pub loop-i-init : goal.loop-i-init
-loop-i-init c = record { slots = search rules; counted = refl; written = λ k h. absurd (omega arith) }
-
 pub loop-i-preserved : goal.loop-i-preserved
 loop-i-preserved c =
     let l = c.loop-i in

@@ -29,12 +29,6 @@ returns-in_err-visit c =
     let p = err_from_is_err_and c.from_residual.result c.from_residual.ensures.1 in
     rw (p.1, p.2) (record { value = all; few = tt })
 
-pub loop-set-smaller : goal.loop-set-smaller
-loop-set-smaller c =
-    let l = c.loop-set.search in
-    let e = c.in-Some.ensures in
-    omega (arith, c.in_ok-visit.ensures.judged, e.turn.3, l.few, l.reached)
-
 pub loop-set-preserved : goal.loop-set-preserved
 loop-set-preserved c =
     let r = c.args.self.now in
