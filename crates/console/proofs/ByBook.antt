@@ -1,5 +1,5 @@
 -- Books with the same sets prescribe the same answers.
-use Rattle.std.proofs.Common.{ℕ, List, [], ◌∷◌, Some, None, Ok, Err, Option, inl, inr}
+use Rattle.std.proofs.Common.{ℕ, List, [], ◌∷◌, Some, None, Ok, Err, inl, inr}
 use Rattle.books.specs.Sets.{Same}
 use Rattle.sheet.specs.Model.{Sheet}
 use Rattle.protocol.specs.Actions.{Timing}

@@ -1,6 +1,5 @@
 -- The calls that events are, one by one, and what is told of them.
-use Rattle.std.proofs.Common.{◌≡◌, ℕ, ◌<◌, List, [], ◌∷◌, ◌++◌, map, length, IfOk, Some, None, Ok, Err, Option, Result, sym, refl, ap, ◌∙◌, subst, append_assoc, append-nil, arith, MatchOption}
-use Rattle.std.proofs.lemmas.List.{map_push}
+use Rattle.std.proofs.Common.{◌≡◌, ℕ, List, [], ◌∷◌, ◌++◌, map, IfOk, Some, None, Ok, Err, Option, Result, sym, refl, ap, ◌∙◌, subst, MatchOption}
 use Rattle.text.specs.StopLine.{line_of_stop}
 use Rattle.books.specs.declared.fault.BookFault.{BookFault}
 use Rattle.sheet.specs.Decode.{model}
@@ -10,13 +9,11 @@ use Rattle.reading.specs.Handing.{counts_of}
 use Rattle.protocol.specs.Accepted.{Accepted as CanBeParted}
 use Rattle.runs.specs.Run.{Book}
 use Rattle.events.specs.declared.event.Event.{Event}
-use Rattle.input.specs.Bytes.{event_bytes}
 use Rattle.input.specs.Events.{events_in}
-use Rattle.input.proofs.Decoding.{event_next}
 use Rattle.input.specs.Laid.{Broken}
 use Rattle.input.specs.Split.{Splits}
 use Rattle.input.specs.declared.script.Script.{Script}
-use Rattle.session.specs.Calls.{call_of, calls, passed, Prescribed}
+use Rattle.session.specs.Calls.{calls, passed, Prescribed}
 use Rattle.session.specs.Outcomes.{Closes}
 use Rattle.events.specs.declared.closing.Early.{Early}
 use Rattle.console.specs.Faults.{stop_for, watch_fault}
@@ -25,7 +22,6 @@ use Rattle.console.specs.Told.{Watched, PartsTold, Told}
 use Rattle.console.specs.Transcript.{transcript}
 use Rattle.console.specs.declared.fault.ConsoleFault.{ConsoleFault}
 use Rattle.console.specs.declared.fault.ConsoleFault.TheVariants.{Cut}
-use Rattle.events.specs.declared.call.Call.{Call}
 use Rattle.events.specs.declared.call.Call.TheVariants.{Judge}
 use Rattle.events.specs.declared.call.Entry.{Entry}
 

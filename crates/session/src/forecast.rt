@@ -38,6 +38,7 @@ impl<B: TimeBook> Session<B> {
         let latest = self.inner.latest;
         let channels = &self.inner.channels;
         let set = self.set_of(role)?;
+        // A match on the enum: each arm borrows something else of the session, and closures in its place would say more.
         match set.kind {
             LocalKind::Finished => None,
             LocalKind::Sending { partner } => {

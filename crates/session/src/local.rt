@@ -24,6 +24,7 @@ impl<B> Session<B> {
         ensures { result ≡ step_in (set_in_part self.now.accepted event.role (record_of self.now.inner event.role).set) event }
     {
         let set = self.set_of(event.role)?;
+        // One match on all three, as it is agreed: an event's direction may be none.
         let direction = match (set.kind, event.direction, event.partner) {
             (LocalKind::Sending { partner }, 0, to) if to == partner => Direction::Sends,
             (LocalKind::Receiving { partner }, 1, from) if from == partner => Direction::Takes,

@@ -22,6 +22,7 @@ impl<B: TimeBook> Session<B> {
     ///
     /// It uses up the accepted sheet and holds the book by value, and gives both back where it is stopped: by a book with
     /// fewer rows than the sheet counts, or else by a depth that is not 1 to 8. No event has passed in it yet.
+    // The parameters are the session's own parts: a struct of them would only be another session that is not open yet.
     pub fn open(
         accepted: Accepted,
         book: B,

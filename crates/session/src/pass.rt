@@ -35,6 +35,7 @@ impl Inner {
 fn deliver(channels: &mut Channels, event: Event, direction: Direction) -> u32
     ensures { Delivered direction channels.old event channels.new result }
 {
+    // A match on the enum: both arms change the channels, which two closures could not both hold.
     match direction {
         Direction::Sends => {
             let message = Message {

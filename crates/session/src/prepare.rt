@@ -40,6 +40,7 @@ impl Inner {
     {
         let role = event.role;
         let label = event.label;
+        // A match on the enum: each direction has its own test and its own stop.
         match step.direction {
             Direction::Sends => {
                 if self.channels.count(role, event.partner) >= self.depth as usize {
