@@ -21,7 +21,7 @@ fn put_head(text: &mut Text, number: usize) -> Result<(), AllocError>
     write!(text, "  set {number}, states")
 }
 
-// The states of a set, each after a space.
+// The states of a set, each after a space: a state is a number that the set is asked for, and the number is told.
 fn put_members(text: &mut Text, set: &LocalSet) -> Result<(), AllocError>
     ensures { Adds text.old text.new result (states_from set.now.states 0 64) }
 {

@@ -12,7 +12,7 @@ use reading::states::Branches;
 use sheet::branch::Branch;
 use std::alloc::AllocError;
 
-impl<'a> Page<'a> {
+impl Page<'_> {
     fn put_branch(&mut self, branch: Branch) -> Result<(), AllocError>
         ensures { Tells self.old self.new result (branch_line (told self.old) branch) }
     {

@@ -10,7 +10,7 @@ use crate::page::Page;
 use reading::piece::Kind;
 use std::alloc::AllocError;
 
-impl<'a> Page<'a> {
+impl Page<'_> {
     #[tactic(auto, unfolding(crate::specs::Lines::name_line))]
     fn put_name(&mut self, kind: Kind, heading: &str, number: usize) -> Result<(), AllocError>
         ensures { Tells self.old self.new result (name_line heading.now number (piece_of (told self.old) kind number)) }

@@ -21,7 +21,7 @@ pub struct Page<'a> {
     pub sheet: &'a ReadSheet,
 }
 
-impl<'a> Page<'a> {
+impl Page<'_> {
     /// Puts the bytes of the piece of that kind and number.
     pub fn put_piece(&mut self, kind: Kind, number: usize) -> Result<(), AllocError>
         ensures { Tells self.old self.new result (piece_of (told self.old) kind number) }

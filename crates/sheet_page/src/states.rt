@@ -11,7 +11,7 @@ use reading::piece::Kind;
 use reading::states::split_state;
 use std::alloc::AllocError;
 
-impl<'a> Page<'a> {
+impl Page<'_> {
     fn put_end(&mut self, number: usize) -> Result<(), AllocError>
         ensures { Tells self.old self.new result (end_line number) }
     {

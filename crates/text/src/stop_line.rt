@@ -26,6 +26,7 @@ pub fn put_named(text: &mut Text, number: u8) -> Result<(), AllocError>
 
 /// Puts a stop's line: its number, its word and its two places.
 // No `Display` of a stop: the words are bytes, and a formatter takes text alone.
+#[tactic(auto, unfolding(crate::specs::StopLine::line_of_stop))]
 pub fn put_stop(text: &mut Text, stop: Stop) -> Result<(), AllocError>
     ensures { Adds text.old text.new result (line_of_stop stop) }
 {
