@@ -15,21 +15,13 @@ const SAMPLES: u32 = 400;
 const ROWS: [u8; 16] = [0, 1, 2, 3, 4, 5, 6, 7, 8, 9, 10, 11, 12, 63, 64, 255];
 
 /// How many questions were asked, and how many answers differ.
-#[derive(Drop)]
+#[derive(Default, Drop)]
 pub(crate) struct Tally {
     pub asked: u64,
     pub differ: u64,
 }
 
 impl Tally {
-    /// No question yet.
-    pub(crate) fn new() -> Tally {
-        Tally {
-            asked: 0,
-            differ: 0,
-        }
-    }
-
     /// One more question, with whether its answer was right.
     pub(crate) fn note(&mut self, right: bool) {
         self.asked = self.asked.wrapping_add(1);
@@ -41,7 +33,7 @@ impl Tally {
 
 /// Asks the book about each row at many values, and compares.
 pub(crate) fn trial<B: TimeBook, P: Plain>(book: &B, plain: &P, ends: &[u32]) -> Tally {
-    let mut tally = Tally::new();
+    let mut tally = Tally::default();
     for row in &ROWS {
         for k in 0..SAMPLES {
             tally.note(right(book, plain, *row, sample(k)));

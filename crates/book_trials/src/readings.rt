@@ -32,7 +32,7 @@ fn fault_of_zeros<R: RowKind>(given: usize, legal: bool) -> Option<BookFault> {
 
 /// Every length of bytes, all of them 0: a window 0 to 0 is legal, and a slot with the width 0 is not.
 pub(crate) fn lengths() -> Tally {
-    let mut tally = Tally::new();
+    let mut tally = Tally::default();
     let zeros = [0; MOST];
     for given in 0..MOST + 1 {
         let bytes = &zeros[0..given];
@@ -44,7 +44,7 @@ pub(crate) fn lengths() -> Tally {
 
 /// Books of 64 rows, of which each in turn is the first bad one, and last a good book.
 pub(crate) fn first_bad_rows() -> Tally {
-    let mut tally = Tally::new();
+    let mut tally = Tally::default();
     for first in 0..65usize {
         let expected = (first < 64).then_some(BookFault::Row { row: first });
         let mut windows = [[0, 0]; 64];
@@ -61,7 +61,7 @@ pub(crate) fn first_bad_rows() -> Tally {
 
 /// The stop of each fault.
 pub(crate) fn stops() -> Tally {
-    let mut tally = Tally::new();
+    let mut tally = Tally::default();
     for place in 0..MOST {
         let stop = |number| Stop {
             layer: Layer::Books,

@@ -1,4 +1,4 @@
--- Computed: the fault of a book's bytes, found row by row. The clauses `judged` of the two `read` tie it to what the rule says.
+-- Computed: the fault of a book's bytes, found row by row. The clause `judged` of `read` ties it to what the rule says.
 use Rattle.std.specs.Prelude.{ℕ, zero, suc, ◌+◌, ◌/◌, ◌%◌, Bool, cond, ◌&&◌, List, length, Some, None, Option, ◌==◌, nat_le}
 use Rattle.book_rows.specs.Bytes.{row_at}
 use Rattle.books.specs.declared.fault.BookFault.{BookFault}

@@ -21,6 +21,7 @@ pub struct Mark {
 /// A book of sixteen marks. A row's set is the values that its marks give.
 #[derive(Drop)]
 pub struct Marks {
+    // How many rows the book has: no length of the marks, which are always sixteen.
     rows: usize,
     marks: [Mark; 16],
     ghost few: { rows ≤ 64 },

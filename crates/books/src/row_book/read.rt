@@ -25,6 +25,7 @@ impl<R: RowKind> RowBook<R> {
             return Err(BookFault::Rows { given });
         }
         let mut rows = ArrayVec::new();
+        // `collect` into a `Result` would not say which row stopped it.
         for (row, part) in bytes.chunks_exact(R::SIZE).enumerate() {
             rows.push(R::decode(part).ok_or(BookFault::Row { row })?);
         }
