@@ -39,6 +39,7 @@ pub(crate) fn tried(rt: &HostRuntime, cases: &[Case]) -> io::Result<()> {
 
 /// Reads the case's book and puts the case to a session with it.
 fn watched(rt: &HostRuntime, case: &Case) -> io::Result<()> {
+    // Each arm calls the generic function at another type of book.
     match case.rows {
         Rows::Windows(bytes) => put(rt, case, Windows::read(bytes)),
         Rows::Slots(bytes) => put(rt, case, Slots::read(bytes)),

@@ -47,6 +47,8 @@ impl Channel {
     }
 
     /// Puts a message last; or gives it back, with nothing changed, where 8 wait.
+    // This and `pop` resume the queue and keep its place in the same two lines: a function that did so round a closure would have
+    // to require of it that it keeps the slots which the queue was lent.
     pub(crate) fn push(&mut self, message: Message) -> Result<(), Message>
         ensures { MatchResult result (λ _. (length (waiting self.old) < 8) × (waiting self.new ≡ waiting self.old ++ message ∷ [])) (λ back. (back ≡ message) × (self.new ≡ self.old) × (8 ≤ length (waiting self.old))) }
     {

@@ -6,6 +6,7 @@ use events::message::Message;
 use queue::queue::Queue;
 
 /// Where a queue stands in its slots: the oldest message in slot `first`, and how many there are.
+// Fixed memory: a channel keeps this and its slots, and a queue is resumed in them at each call.
 #[derive(Clone, Copy)]
 pub(crate) struct Place {
     pub(crate) first: usize,

@@ -104,6 +104,7 @@ pub fn first_sets(sheet: &Bytes, role: usize) -> Option<(usize, [u64; 4])> {
     let sheet = read(sheet.written.as_slice()).ok()?;
     let accepted = part(sheet).ok()?;
     let part = accepted.part(role)?;
+    // The count that goes with them is of all sets, and not of these masks.
     let mut masks = [0; 4];
     for (mask, set) in masks.iter_mut().zip(part.found()) {
         *mask = set.states;

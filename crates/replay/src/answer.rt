@@ -1,4 +1,4 @@
-//! The bytes of an answer.
+//! The bytes of an answer, as the C interface lays them out: arrays of a fixed length.
 
 ghost use Rattle.std.specs.Prelude.{◌≡◌, length};
 
@@ -6,45 +6,17 @@ use events::call::Reply;
 use events::closing::Early;
 use events::fault::SessionFault;
 use sheet::counts::Counts;
-use stops::stop::{Layer, Stop};
+use stops::stop::Stop;
 
-/// The bytes of a stop that ends a script before its calls.
+/// The bytes of a stop that ends a script before its calls. Its layer is numbered as the layers are declared.
 pub(crate) fn stop_bytes(stop: Stop) -> [u8; 19]
     ensures { length result ≡ 19 }
 {
-    let [a, b, c, d, e, f, g, h] = (stop.first as u64).to_be_bytes();
-    let [i, j, k, l, m, n, o, p] = (stop.second as u64).to_be_bytes();
-    [
-        1,
-        stop.number,
-        layer_byte(stop.layer),
-        a,
-        b,
-        c,
-        d,
-        e,
-        f,
-        g,
-        h,
-        i,
-        j,
-        k,
-        l,
-        m,
-        n,
-        o,
-        p,
-    ]
-}
-
-fn layer_byte(layer: Layer) -> u8 {
-    match layer {
-        Layer::Reading => 0,
-        Layer::Books => 1,
-        Layer::Parting => 2,
-        Layer::Session => 3,
-        Layer::Program => 4,
-    }
+    let mut bytes = [0; 19];
+    bytes[..3].copy_from_slice(&[1, stop.number, stop.layer as u8]);
+    bytes[3..11].copy_from_slice(&(stop.first as u64).to_be_bytes());
+    bytes[11..].copy_from_slice(&(stop.second as u64).to_be_bytes());
+    bytes
 }
 
 /// The bytes that stand before the answers: the script was opened, and the sheet's counts.
@@ -62,7 +34,17 @@ pub(crate) fn answer_bytes(answer: Result<Reply, SessionFault>) -> [u8; 8]
         Ok(Reply::Passed { answer }) => plain(0, answer),
         Ok(Reply::Next { tick: Some(tick) }) => plain(2, tick),
         Ok(Reply::Next { tick: None }) => plain(3, 0),
-        Err(fault) => stopped(fault),
+        Err(fault) => stopped(1, Stop::from(fault)),
+    }
+}
+
+/// The bytes of what closing answers.
+pub(crate) fn closing_bytes(closing: Result<(), Early>) -> [u8; 8]
+    ensures { length result ≡ 8 }
+{
+    match closing {
+        Ok(()) => plain(4, 0),
+        Err(early) => stopped(4, Stop::from(early)),
     }
 }
 
@@ -73,36 +55,10 @@ fn plain(tag: u8, value: u32) -> [u8; 8]
     [tag, 0, 0, 0, a, b, c, d]
 }
 
-fn stopped(fault: SessionFault) -> [u8; 8]
+// Its places fit in a byte each: those of events, forecasts and closing do.
+fn stopped(tag: u8, stop: Stop) -> [u8; 8]
     ensures { length result ≡ 8 }
 {
-    let stop = Stop::from(fault);
-    [
-        1,
-        stop.number,
-        place(stop.first),
-        place(stop.second),
-        0,
-        0,
-        0,
-        0,
-    ]
-}
-
-/// A place in one byte. Those of events, forecasts and closing fit.
-fn place(place: usize) -> u8 {
-    place.min(255) as u8
-}
-
-/// The bytes of what closing answers.
-pub(crate) fn closing_bytes(closing: Result<(), Early>) -> [u8; 8]
-    ensures { length result ≡ 8 }
-{
-    match closing {
-        Ok(()) => [4, 0, 0, 0, 0, 0, 0, 0],
-        Err(early) => {
-            let stop = Stop::from(early);
-            [4, stop.number, place(stop.first), 0, 0, 0, 0, 0]
-        }
-    }
+    let [first, second] = [stop.first, stop.second].map(|place| u8::try_from(place).unwrap_or(255));
+    [tag, stop.number, first, second, 0, 0, 0, 0]
 }

@@ -26,6 +26,7 @@ pub extern "C" fn rekdeuy_replay(input: &[u8], output: &mut [u8]) -> usize
     let Some(script) = split(input) else {
         return 0;
     };
+    // No plainer by `unwrap_or_else`: its closure would write the output that `run` was lent.
     match run(script, output) {
         Ok(written) => written,
         Err(stop) => put_stop(output, stop),

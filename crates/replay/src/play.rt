@@ -1,10 +1,10 @@
 //! Putting the calls of a script to a session.
 
-ghost use Rattle.std.specs.Prelude.{◌≡◌, ◌+◌, ◌*◌, ◌≤◌, length, drop, MatchResult, nat_le};
+ghost use Rattle.std.specs.Prelude.{◌≡◌, ◌+◌, ◌*◌, MatchResult, nat_le};
 ghost use Rattle.replay.specs.Written.{Kept};
 
 use crate::answer::{answer_bytes, closing_bytes, opened_bytes};
-use crate::call::call;
+use crate::call::Calls;
 use crate::output::put;
 use crate::script::Script;
 use books::time_book::TimeBook;
@@ -29,10 +29,10 @@ pub(crate) fn play<B: TimeBook + Drop>(
     ensures { MatchResult result (λ n. Kept n output.old output.new) (λ _. output.new ≡ output.old) }
 {
     let counts = accepted.counts();
-    match Session::open(accepted, book, script.tick, script.depth) {
-        Ok(session) => Ok(answer(session, counts, script, output)),
-        Err(unopened) => Err(Stop::from(unopened.fault)),
-    }
+    let session = Session::open(accepted, book, script.tick, script.depth).map_err(
+        |unopened| unopened.fault,
+    )?;
+    Ok(answer(session, counts, script, output))
 }
 
 // Writes nothing where there is no room for all answers.
@@ -49,9 +49,10 @@ fn answer<B: TimeBook + Drop>(
     }
     let mut session = session;
     put(output, 0, &opened_bytes(counts));
-    let at = put_answers(&mut session, script.calls, script.count, output);
-    put(output, at, &closing_bytes(session.close().closing));
-    at + ROW
+    let end = HEAD + ROW * script.count;
+    put_answers(&mut session, script.calls, &mut output[HEAD..end]);
+    put(output, end, &closing_bytes(session.close().closing));
+    end + ROW
 }
 
 /// Whether an output of this length has room for the answers to so many calls.
@@ -61,26 +62,10 @@ fn has_room(length: usize, count: usize) -> bool
     length >= HEAD + ROW && (length - HEAD - ROW) / ROW >= count
 }
 
-/// Puts the calls to the session and writes their answers after the head; the result is where they end.
-fn put_answers<B: TimeBook>(
-    session: &mut Session<B>,
-    calls: &[u8],
-    count: usize,
-    output: &mut [u8],
-) -> usize
-    requires { 13 + 8 * count ≤ length output.old }
-    ensures within { (5 ≤ result) × (result + 8 ≤ length output.old) }
-    ensures rest { drop result output.new ≡ drop result output.old }
-{
-    let mut rest = calls;
-    let mut at = HEAD;
-    for _ in 0..count {
-        let Some((call, after)) = call(rest) else {
-            break;
-        };
-        put(output, at, &answer_bytes(session.ask(call)));
-        rest = after;
-        at += ROW;
+/// Puts the calls to the session, as many as there are rows for answers, and writes each answer in its row.
+fn put_answers<B: TimeBook>(session: &mut Session<B>, calls: &[u8], rows: &mut [u8]) {
+    let (rows, _) = rows.as_chunks_mut::<ROW>();
+    for (row, call) in rows.iter_mut().zip(Calls::new(calls)) {
+        *row = answer_bytes(session.ask(call));
     }
-    at
 }

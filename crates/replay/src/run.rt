@@ -9,7 +9,6 @@ use books::margin::Margin;
 use books::slots::Slots;
 use books::time_book::TimeBook;
 use books::windows::Windows;
-use parting::accepted::Accepted;
 use parting::part::part;
 use reading::read::read;
 use reading::read_sheet::ReadSheet;
@@ -20,6 +19,7 @@ pub(crate) fn run(script: Script<'_>, output: &mut [u8]) -> Result<usize, Stop>
     ensures { MatchResult result (λ n. Kept n output.old output.new) (λ _. output.new ≡ output.old) }
 {
     let sheet = read(script.sheet)?;
+    // Each arm calls the generic function at another type of book.
     match script.kind {
         BookKind::Windows => run_by(sheet, Windows::read(script.book)?, script, output),
         BookKind::Slots => run_by(sheet, Slots::read(script.book)?, script, output),
@@ -34,7 +34,8 @@ fn run_by<B: TimeBook + Drop>(
 ) -> Result<usize, Stop>
     ensures { MatchResult result (λ n. Kept n output.old output.new) (λ _. output.new ≡ output.old) }
 {
-    let accepted = accept(sheet)?;
+    let accepted = part(sheet)?;
+    // Each arm calls the generic function at another type of book.
     match script.margins {
         Margins::None => play(accepted, book, script, output),
         Margins::One(by) => play(accepted, Margin::over(book, by), script, output),
@@ -42,12 +43,5 @@ fn run_by<B: TimeBook + Drop>(
             let book = Margin::over(Margin::over(book, inner), outer);
             play(accepted, book, script, output)
         }
-    }
-}
-
-fn accept(sheet: ReadSheet) -> Result<Accepted, Stop> {
-    match part(sheet) {
-        Ok(accepted) => Ok(accepted),
-        Err(refused) => Err(Stop::from(refused.fault)),
     }
 }

@@ -3,6 +3,7 @@
 use crate::put::Put;
 
 /// A book of these bytes, as it is or under a margin.
+// Each case is a book of another type, which is made where the case is tried.
 #[derive(Clone, Copy)]
 pub enum Rows {
     Windows(&'static [u8]),

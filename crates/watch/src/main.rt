@@ -7,6 +7,7 @@ use books::windows::Windows;
 use program::program::watch;
 use std::io;
 
+// The text of watch_slots has other words and other line ends, so each stands whole.
 const HELP: &str = "\
 watch reads a sheet, a book of windows, an opening tick and events from standard
 input, and passes or stops each event.

@@ -7,6 +7,7 @@ use books::slots::Slots;
 use program::program::watch;
 use std::io;
 
+// The text of watch has other words and other line ends, so each stands whole.
 const HELP: &str = "\
 watch_slots reads a sheet, a book of slots, an opening tick and events from
 standard input, and passes or stops each event.
