@@ -1,5 +1,5 @@
 -- The pieces of a sheet that has been read.
-use Rattle.std.proofs.Common.{◌≡◌, ℕ, ◌+◌, ◌<◌, false, List, [], ◌++◌, map, length, get_or, take, drop, is_some, Some, None, Option, sym, refl, ap, ◌∙◌, subst, arith}
+use Rattle.std.proofs.Common.{◌≡◌, ℕ, ◌+◌, ◌<◌, false, List, [], ◌++◌, map, length, get_or, take, is_some, Some, None, Option, sym, refl, ap, ◌∙◌, subst, arith}
 use Rattle.std.specs.List.{flat_map}
 use Rattle.std.proofs.lemmas.List.{get_or_append_left, get_or-append-add, get_or-map}
 use Rattle.sheet.specs.declared.counts.Counts.{Counts}
@@ -8,10 +8,10 @@ use Rattle.sheet.specs.Decode.{counts, piece_count_in, name_count_of, table, cut
 use Rattle.sheet.specs.Encode.{body, pieces, begin}
 use Rattle.sheet.specs.Model.{Sheet, ended}
 use Rattle.sheet.specs.Refuse.{fault}
-use Rattle.sheet.proofs.Clean.{pairs_there, piece_begins, piece_ends, pieces_read}
+use Rattle.sheet.proofs.Clean.{pairs_there, piece_begins, pieces_read}
 use Rattle.sheet.proofs.Pieces.{counted_model, length-cuts}
 use Rattle.sheet.proofs.Sizes.{clear_pairs}
-use Rattle.sheet.proofs.Spans.{length-table, length_cut}
+use Rattle.sheet.proofs.Spans.{length-table}
 use Rattle.sheet.proofs.Whole.{clear_fault}
 use Rattle.reading.specs.declared.piece.Kind.{Kind}
 use Rattle.reading.specs.declared.piece.Kind.TheVariants.{Role, Label, State}
@@ -79,11 +79,3 @@ module _ (bytes : List ℕ) (clean : fault bytes ≡ None) where
         ∙ ap (λ k. begin k + length (flat_map (λ p. p) (take (first_pair (counts bytes) kind + n) (map (cut bytes) (table bytes))))) count
         ∙ ap (λ ps. begin (length (pieces (model bytes))) + length (flat_map (λ p. p) (take (first_pair (counts bytes) kind + n) ps))) (sym (pieces_read bytes clean))
         ∙ ap (λ c. offset_of (model bytes) (first_pair c kind + n)) counts_are
-
-    -- a piece is the part of the bytes that begins at its offset
-    pub piece_own : (p : List ℕ) → p ≡ cut bytes (get_or (table bytes) (first_pair (counts bytes) kind + n) nowhere)
-        → p ≡ take (length p) (drop (get_or (table bytes) (first_pair (counts bytes) kind + n) nowhere).offset bytes)
-    piece_own p e =
-        let s = get_or (table bytes) (first_pair (counts bytes) kind + n) nowhere in
-        let size : length p ≡ s.size = ap length e ∙ length_cut bytes s (piece_ends bytes clean (first_pair (counts bytes) kind + n) (pair_below kind n h) nowhere) in
-        e ∙ ap (λ k. take k (drop s.offset bytes)) (sym size)

@@ -32,9 +32,9 @@ returns-in_err-judge c =
     let p = err_from_is_err_and c.from_residual.result c.from_residual.ensures.1 in
     rw (p.1, p.2) (record { judged = sym e; whole = refused bytes _ e })
 
-pub returns : goal.returns
-returns c =
+pub returns-clause-whole : goal.returns-clause-whole
+returns-clause-whole c =
     let bytes = c.args.bytes.now in
     let e : fault bytes ≡ None = sym c.in_ok-judge.ensures in
     let fits : Bytes bytes = All-from_get_or (λ b. b < 256) bytes 0 (λ i _. omega (arith, c.type_inv.bytes i)) in
-    record { judged = sym e; whole = reads bytes c.keep.result fits e c.keep.ensures }
+    reads bytes c.keep.result fits e c.keep.ensures

@@ -1,10 +1,9 @@
-use Rattle.std.proofs.Common.{◌≡◌, ℕ, ◌+◌, ◌<◌, ◌≤◌, true, false, ltb, List, length, get_or, drop, Some, None, is_some, refl, sym, ap, ◌∙◌, arith}
+use Rattle.std.proofs.Common.{◌≡◌, ℕ, ◌+◌, ◌<◌, ◌≤◌, true, false, ltb, List, length, get_or, drop, Some, None, is_some, sym, ap, ◌∙◌, arith}
 use Rattle.std.proofs.lemmas.List.{at_drop_more, at_drop_all}
 use Rattle.std.proofs.lemmas.Bool.{and_parts, leb-true, eq-eqb, ne_eqb, cond-true, cond-false}
 use Rattle.sheet.specs.declared.fault.ReadFault.TheVariants.{Pair}
 use Rattle.sheet.specs.declared.span.Span.{Span}
-use Rattle.sheet.specs.Decode.{counts, name_count_of, piece_count_in, table}
-use Rattle.sheet.specs.Encode.{begin}
+use Rattle.sheet.specs.Decode.{piece_count_in, table}
 use Rattle.sheet.specs.Refuse.{placed, pair_fault, sized}
 use Rattle.reading.specs.Places.{nowhere}
 use Rattle.reading.proofs.Checks.{first_fails, first_passes}
@@ -28,11 +27,11 @@ unfolding placed
 ends_by limit at s i names e =
     leb-true _ _ (and_parts (sized (ltb i names) s.size) _ (and_parts _ _ e).1).1
 
-pub returns-then-not-placed : goal.returns-then-not-placed
-returns-then-not-placed c =
+pub returns-then-not-placed-clause-judged : goal.returns-then-not-placed-clause-judged
+returns-then-not-placed-clause-judged c =
     let bytes = c.args.self.bytes.now in
     let within : c.loop-pair.pair < length (table bytes) = omega (arith, length-table bytes, c.piece_count-count.ensures, ap piece_count_in c.args.self.counted) in
-    record { judged = sym (here _ _ _ c.loop-pair.at (table bytes) _ c.span-span.ensures.value within (sym c.if-not-placed.ensures)) ∙ c.loop-pair.invariant.0; value = tt }
+    sym (here _ _ _ c.loop-pair.at (table bytes) _ c.span-span.ensures.value within (sym c.if-not-placed.ensures)) ∙ c.loop-pair.invariant.0
 
 pub loop-pair-preserved : goal.loop-pair-preserved
 loop-pair-preserved c =
@@ -43,36 +42,18 @@ loop-pair-preserved c =
       ends_by _ c.loop-pair.at c.span-span.result _ _ passed,
     )
 
-pub loop-pair-init : goal.loop-pair-init
-loop-pair-init c =
-    let bytes = c.args.self.bytes.now in
-    let names = c.name_count-names.ensures ∙ ap name_count_of c.args.self.counted in
-    let at = c.first_offset-at.ensures ∙ ap (λ k. begin (piece_count_in k)) c.args.self.counted in (
-      ap (λ n. pair_fault (length bytes) n 0 c.first_offset-at.result (table bytes)) names
-          ∙ ap (λ o. pair_fault (length bytes) (name_count_of (counts bytes)) 0 o (table bytes)) at,
-      omega (arith, at, c.args.self.room),
-    )
-
-pub returns-then-at-limit : goal.returns-then-at-limit
-returns-then-at-limit c =
+pub returns-then-at-limit-clause-judged : goal.returns-then-at-limit-clause-judged
+returns-then-at-limit-clause-judged c =
     let bytes = c.args.self.bytes.now in
     let all : length (table bytes) ≤ c.loop-pair.pair = omega (arith, length-table bytes, c.piece_count-count.ensures, ap piece_count_in c.args.self.counted) in
     let last : c.loop-pair.pair ≡ c.piece_count-count.result = omega arith in
-    let judged =
     ap (λ k. Some (Pair k)) (sym last)
     ∙ sym (cond-false _ _ _ (ne_eqb _ _ c.if-at-limit.true))
     ∙ sym (at_drop_all (pair_fault _ _ _ c.loop-pair.at) (table bytes) c.loop-pair.pair all)
-    ∙ c.loop-pair.invariant.0 in
-    record { judged = judged; value = tt }
+    ∙ c.loop-pair.invariant.0
 
 clean : (bytes : List ℕ) (names at i : ℕ) → length (table bytes) ≤ i → at ≡ length bytes → pair_fault (length bytes) names i at (drop i (table bytes)) ≡ None
 clean bytes names at i all e = at_drop_all (pair_fault (length bytes) names i at) (table bytes) i all ∙ cond-true _ _ (Some (Pair i)) (eq-eqb _ _ e)
-
-pub returns : goal.returns
-returns c =
-    let bytes = c.args.self.bytes.now in
-    let all : length (table bytes) ≤ c.loop-pair.pair = omega (arith, length-table bytes, c.piece_count-count.ensures, ap piece_count_in c.args.self.counted) in
-    record { judged = sym (clean bytes _ c.loop-pair.at c.loop-pair.pair all c.if-at-limit.false) ∙ c.loop-pair.invariant.0; value = refl }
 
 pub invariant_of-result : goal.invariant_of-result
 invariant_of-result c =

@@ -1,5 +1,5 @@
 use Rattle.std.proofs.Common.{◌-◌, ◌≤◌, length, get_or, refl, ap, ◌∙◌, arith, rules, tests}
-use Rattle.std.proofs.lemmas.Iterator.{YieldsList-from_range, serves_from_Range}
+use Rattle.std.proofs.lemmas.Iterator.{YieldsList-from_range}
 use Rattle.std.proofs.lemmas.Iterator.Search.{any_from_yields_List}
 use Rattle.sheet.specs.Decode.{piece_count_in, table, cut}
 use Rattle.sheet.specs.Names.{same}
@@ -7,9 +7,6 @@ use Rattle.sheet.proofs.Spans.{length-table}
 use Rattle.reading.specs.Places.{nowhere}
 use Rattle.reading.proofs.NameSteps.{among_pairs}
 use Rattle.reading.proofs.places.Tiled.repeats.Goals as goal
-
-pub any-requires : goal.any-requires
-any-requires c = record { can = tt; finite = tt; callable = serves_from_Range (λ x q k. search (rules, tests)) (λ x low high. omega arith) }
 
 pub returns : goal.returns
 returns c =

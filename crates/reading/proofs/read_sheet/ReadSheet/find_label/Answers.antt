@@ -1,7 +1,7 @@
 use Rattle.std.proofs.Common.{◌≡◌, ℕ, ◌+◌, ◌-◌, ◌<◌, true, false, List, [], length, get_or, None, sym, ap, ◌∙◌, subst, refl, arith, rules, tests}
 use Rattle.std.specs.List.{range_with_len}
-use Rattle.std.proofs.lemmas.Iterator.{YieldsList-from_range, IsFirst-from_position, serves_from_Range}
-use Rattle.sheet.specs.Decode.{counts, piece_count_in, table, cut, model}
+use Rattle.std.proofs.lemmas.Iterator.{YieldsList-from_range, IsFirst-from_position}
+use Rattle.sheet.specs.Decode.{counts, table, cut, model}
 use Rattle.sheet.specs.Names.{same}
 use Rattle.sheet.specs.Refuse.{fault}
 use Rattle.reading.specs.declared.piece.Kind.TheVariants.{Label}
@@ -23,15 +23,6 @@ module _ (whole : List ℕ) (clean : fault whole ≡ None) (label : ℕ) (h : la
       (ap (λ b. same (cut b (get_or (table b) (first + label) nowhere)) name) is
       ∙ ap (λ f. same (cut whole (get_or (table whole) (f + label) nowhere)) name) e
       ∙ ap (λ p. same p name) (piece_is whole clean Label label inside))
-
-pub position-requires-clause-callable : goal.position-requires-clause-callable
-position-requires-clause-callable c =
-    let whole = bytes_of c.args.self.now in
-    let clean = clean_bytes c.args.self.now in
-    let first = c.first-first.ensures ∙ ap (λ k. k.roles) c.counts.ensures.read in
-    let count = c.count.ensures ∙ ap (λ k. k.labels) (sym (counts_are whole clean)) in
-    let pairs = ap piece_count_in (c.tiled-tiled.result.paired.counted ∙ ap counts c.tiled-tiled.ensures) in
-    serves_from_Range (λ x q k. search (rules, tests)) (λ x low high. omega arith)
 
 pub returns : goal.returns
 returns c =

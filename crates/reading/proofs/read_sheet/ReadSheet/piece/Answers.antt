@@ -1,19 +1,14 @@
-use Rattle.std.proofs.Common.{◌≡◌, ℕ, ◌+◌, ◌<◌, ◌≤◌, List, length, get_or, take, drop, Some, None, sym, ap, ◌∙◌, subst}
-use Rattle.std.proofs.lemmas.Bool.{lt-ltb, le-ltb, cond-true, cond-false}
-use Rattle.sheet.specs.declared.counts.Counts.{Counts}
+use Rattle.std.proofs.Common.{◌≡◌, ℕ, ◌+◌, ◌<◌, List, get_or, Some, None, sym, ap, ◌∙◌, subst}
+use Rattle.std.proofs.lemmas.Bool.{lt-ltb, cond-true}
 use Rattle.sheet.specs.declared.span.Span.{Span}
-use Rattle.sheet.specs.Decode.{counts, piece_count_in, table, cut, model}
-use Rattle.sheet.specs.Model.{Sheet}
+use Rattle.sheet.specs.Decode.{counts, table, cut, model}
 use Rattle.sheet.specs.Refuse.{fault}
 use Rattle.reading.specs.declared.piece.Kind.{Kind}
 use Rattle.reading.specs.Handing.{Part, counts_of, piece_count_of, first_pair, piece_of, seen, handed}
-use Rattle.reading.specs.Reads.{bytes_of, sheet_of}
+use Rattle.reading.specs.Reads.{bytes_of}
 use Rattle.reading.specs.Places.{nowhere}
-use Rattle.reading.proofs.Handing.{clean_bytes, counts_are, pair_below, piece_is, piece_offset, piece_own}
+use Rattle.reading.proofs.Handing.{clean_bytes, counts_are, piece_is, piece_offset}
 use Rattle.reading.proofs.read_sheet.ReadSheet.piece.Goals as goal
-
-past_end : (sh : Sheet) (kind : Kind) (n : ℕ) → piece_count_of (counts_of sh) kind ≤ n → None ≡ handed sh kind n
-past_end sh kind n h = sym (cond-false _ _ None (le-ltb n (piece_count_of (counts_of sh) kind) h))
 
 module _ (bytes : List ℕ) (clean : fault bytes ≡ None) (kind : Kind) (n : ℕ) (h : n < piece_count_of (counts_of (model bytes)) kind) where
   inside : n < piece_count_of (counts bytes) kind
@@ -23,10 +18,6 @@ module _ (bytes : List ℕ) (clean : fault bytes ≡ None) (kind : Kind) (n : �
   span = get_or (table bytes) (first_pair (counts bytes) kind + n) nowhere
 
   -- the pair at which the piece is looked up
-  below : (k : Counts) (first : ℕ) → k ≡ counts bytes → first ≡ first_pair (counts bytes) kind → first + n < piece_count_in k
-  below k first is e =
-      subst (λ f. f + n < piece_count_in k) (sym e) (subst (λ x. first_pair (counts bytes) kind + n < piece_count_in x) (sym is) (pair_below bytes clean kind n inside))
-
   within : (part : Part) → part ≡ record { kind = kind; bytes = cut bytes span; offset = span.offset } → Some part ≡ handed (model bytes) kind n
   within part e =
       ap Some
@@ -34,11 +25,6 @@ module _ (bytes : List ℕ) (clean : fault bytes ≡ None) (kind : Kind) (n : �
       ∙ ap (λ p. record { kind = kind; bytes = p; offset = span.offset }) (piece_is bytes clean kind n inside)
       ∙ ap (λ o. record { kind = kind; bytes = piece_of (model bytes) kind n; offset = o }) (piece_offset bytes clean kind n inside))
       ∙ sym (cond-true _ _ None (lt-ltb n (piece_count_of (counts_of (model bytes)) kind) h))
-
-  own : (part : Part) → part ≡ record { kind = kind; bytes = cut bytes span; offset = span.offset } → part.bytes ≡ take (length part.bytes) (drop part.offset bytes)
-  own part e =
-      piece_own bytes clean kind n inside part.bytes (ap (λ x. x.bytes) e)
-      ∙ ap (λ o. take (length part.bytes) (drop o bytes)) (sym (ap (λ x. x.offset) e))
 
   -- the part that was cut out of the same bytes
   told : (other : List ℕ) (first : ℕ) (piece : List ℕ) (offset : ℕ) → other ≡ bytes → first ≡ first_pair (counts bytes) kind
@@ -50,25 +36,8 @@ module _ (bytes : List ℕ) (clean : fault bytes ≡ None) (kind : Kind) (n : �
       ∙ ap (λ b. record { kind = kind; bytes = b; offset = offset }) (p ∙ ap (λ b. cut b (get_or (table other) (first + n) nowhere)) is ∙ ap (cut bytes) at)
       ∙ ap (λ x. record { kind = kind; bytes = cut bytes span; offset = x }) (o ∙ ap (λ s. s.offset) at)
 
-pub piece-requires : goal.piece-requires
-piece-requires c =
-    let bytes = bytes_of c.args.self.now in
-    let clean = clean_bytes c.args.self.now in
-    let kind = c.args.kind in
-    let inside = subst (λ m. c.args.number < m) c.count.ensures c.if-number-count.false in
-    below bytes clean kind c.args.number inside c.tiled.result.paired.counts c.first.result
-    (c.tiled.result.paired.counted ∙ ap counts c.tiled.ensures)
-    (c.first.ensures ∙ ap (λ k. first_pair k kind) c.counts.ensures.read)
-
-pub returns-then-number-count : goal.returns-then-number-count
-returns-then-number-count c =
-    record {
-      value = past_end (sheet_of c.args.self.now) c.args.kind c.args.number (subst (λ m. m ≤ c.args.number) c.count.ensures c.if-number-count.true);
-      own = tt;
-    }
-
-pub returns : goal.returns
-returns c =
+pub returns-clause-value : goal.returns-clause-value
+returns-clause-value c =
     let bytes = bytes_of c.args.self.now in
     let clean = clean_bytes c.args.self.now in
     let kind = c.args.kind in
@@ -77,7 +46,4 @@ returns c =
     let first-is : c.first.result ≡ first_pair (counts bytes) kind = c.first.ensures ∙ ap (λ k. first_pair k kind) c.counts.ensures.read in
     let part-is = told bytes clean kind n inside c.tiled.result.paired.bytes.now c.first.result c.piece.result.bytes.now c.piece.result.offset c.tiled.ensures first-is
     c.piece.ensures.offset c.piece.ensures.value (seen c.new.result) c.new.ensures in
-    record {
-      value = within bytes clean kind n inside (seen c.new.result) part-is;
-      own = own bytes clean kind n inside (seen c.new.result) part-is;
-    }
+    within bytes clean kind n inside (seen c.new.result) part-is
