@@ -11,6 +11,7 @@ use reading::read_sheet::ReadSheet;
 pub fn part(sheet: &ReadSheet, kind: Kind, number: usize) -> &[u8]
     ensures { result.now ≡ piece_of (sheet_of sheet.now) kind number }
 {
+    // One match for the kinds of pieces and for none: `map` with a function on pieces would hold the same match.
     match sheet.piece(kind, number) {
         Some(
             Piece::Role { name: bytes, .. }
