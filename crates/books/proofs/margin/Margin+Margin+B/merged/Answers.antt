@@ -11,7 +11,7 @@ returns-clause-same g c =
     let d = c.args.self.below.by in
     let e = c.args.self.by in
     λ row v. subst (λ (m : Margin g.row.B.Denot). Same (Near (g.B.TimeBook.admits m.below row) m.by v) (Near (Near (g.B.TimeBook.admits b row) d) e v)) (sym c.over.ensures)
-        (capped (g.B.TimeBook.admits b row) (g.B.TimeBook.bounded.ranged b row) d e c.saturating_add.result v c.saturating_add.ensures)
+    (capped (g.B.TimeBook.admits b row) (g.B.TimeBook.bounded.ranged b row) d e c.saturating_add.result v c.saturating_add.ensures)
 
 pub returns-clause-law : goal.returns-clause-law
 returns-clause-law g c = λ b row. piled (g.B.TimeBook.admits b row) (g.B.TimeBook.bounded.ranged b row)

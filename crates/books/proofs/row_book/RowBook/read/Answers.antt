@@ -92,7 +92,8 @@ invariant_of-result g c =
     let at = (goal.at.invariant_of-result g c).In-None in
     let all = all_read g at in
     let most = few g at in
-    record { few = omega (arith, most, all) }
+    let room : length at.loop-row.rows.items ≤ 64 = omega (arith, most, all) in
+    record { few = search rules }
 
 pub returns-clause-fault : goal.returns-clause-fault
 returns-clause-fault g c = no_fault g (goal.at.returns-clause-fault g c).In-None
