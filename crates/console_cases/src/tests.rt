@@ -41,8 +41,8 @@ END 0
 
 /// The length in two bytes, and the bytes.
 fn put_sized(input: &mut Vec<u8>, bytes: &[u8]) -> Result<(), AllocError> {
-    let size = bytes.len();
-    input.extend_from_slice(&[(size / 256 % 256) as u8, (size % 256) as u8])?;
+    let [.., high, low] = bytes.len().to_be_bytes();
+    input.extend_from_slice(&[high, low])?;
     input.extend_from_slice(bytes)
 }
 
@@ -51,7 +51,7 @@ fn input_of(heap: Global, sheet: &[u8], book: &[u8], events: &[u8]) -> Result<Ve
     let mut input = Vec::new(heap);
     put_sized(&mut input, sheet)?;
     put_sized(&mut input, book)?;
-    input.extend_from_slice(&[0, 0, 0, 100])?;
+    input.extend_from_slice(&100u32.to_be_bytes())?;
     input.extend_from_slice(events)?;
     Ok(input)
 }
