@@ -1,24 +1,14 @@
-use Rattle.std.proofs.Common.{◌≡◌, ◌+◌, ◌/◌, ◌%◌, ◌<◌, ◌≤◌, length, Some, None, sym, ap, ◌∙◌, subst, arith, rules}
+use Rattle.std.proofs.Common.{◌≡◌, ◌+◌, ◌/◌, ◌%◌, ◌<◌, ◌≤◌, length, Some, None, sym, ap, ◌∙◌, subst}
 use Rattle.std.proofs.lemmas.Result.{err_from_is_err_and}
 use Rattle.std.specs.Result.{result_err}
 use Rattle.std.specs.Slice.Iter.{chunks_exact_rest}
 use Rattle.std.specs.Iterator.Adapters.{enumerate_source}
 use Rattle.books.specs.declared.fault.BookFault.TheVariants.{Row}
 use Rattle.books.specs.Faults.{fault_of}
-use Rattle.books.proofs.Reading.{fault_of_rows, judged_by, read_none, row_within, read_more, read_bad, read_all, read_good, read_same}
+use Rattle.books.proofs.Reading.{fault_of_rows, judged_by, read_more, read_bad, read_all, read_good, read_same}
 use Rattle.books.proofs.row_book.RowBook.read.Given.{Over}
 use Rattle.books.proofs.row_book.RowBook.read.Goals as goal
 use Rattle.books.proofs.row_book.RowBook.read.Goals.{After-from_residual, In-Some, In-None}
-
-pub loop-row-init : goal.loop-row-init
-loop-row-init g c =
-    let made = c.into_iter-row-iterator.ensures.into_iter_gives in
-    let from : enumerate_source c.into_iter-row-iterator.result ≡ c.chunks_exact.result = ap enumerate_source made ∙ c.enumerate-row-items.ensures.source in
-    record {
-      number = rw (made, c.new-rows.ensures) c.enumerate-row-items.ensures.count;
-      size = rw from (c.chunks_exact.ensures.size ∙ c.SIZE-2.ensures);
-      so_far = rw (c.new-rows.ensures, from, c.chunks_exact.ensures.rest) (read_none g.R.RowKind.SIZE g.R.RowKind.rule g.R.RowKind.reads c.args.bytes.now);
-    }
 
 -- the row that its decoder refuses is the first bad one
 bad_row : (g : Over) (c : After-from_residual g) → result_err c.from_residual.result ≡ fault_of g.R.RowKind.SIZE g.R.RowKind.rule c.args.bytes.now
@@ -44,17 +34,6 @@ returns-in_err-ok_or-clause-fault g c = bad_row g c
 
 pub returns-in_err-ok_or-clause-judged : goal.returns-in_err-ok_or-clause-judged
 returns-in_err-ok_or-clause-judged g c = judged_by g.R.RowKind.SIZE g.R.RowKind.rule g.R.RowKind.legal g.R.RowKind.decided c.args.bytes.now _ (bad_row g c)
-
-pub push-requires : goal.push-requires
-push-requires g c =
-    let size = g.R.RowKind.SIZE in
-    let bytes = c.args.bytes.now in
-    let inv = c.loop-row.invariant in
-    let step = c.in-Some.ensures.steps in
-    let few : length bytes / size ≤ 64 = subst (λ s. length bytes / s ≤ 64) c.SIZE-else-given-SIZE-ne0.ensures c.if-given-SIZE-gt64.false in
-    let below = row_within size g.R.RowKind.rule g.R.RowKind.reads bytes g.R.RowKind.sized c.loop-row.rows.items _ c.in-Some.part.now _ inv.so_far step.0.1.0 (step.0.1.1 ∙ inv.size) in
-    let room : length c.loop-row.rows.items < 64 = omega (arith, few, below) in
-    (search rules, room)
 
 pub loop-row-preserved : goal.loop-row-preserved
 loop-row-preserved g c =
@@ -86,14 +65,6 @@ no_fault g c =
     let whole : length bytes % size ≡ 0 = subst (λ s. length bytes % s ≡ 0) c.SIZE.ensures c.if-given-SIZE-ne0.false in
     fault_of_rows size g.R.RowKind.rule bytes None whole (few g c)
     (read_good size g.R.RowKind.rule g.R.RowKind.reads bytes g.R.RowKind.sized c.loop-row.rows.items _ c.loop-row.invariant.so_far (short g c))
-
-pub invariant_of-result : goal.invariant_of-result
-invariant_of-result g c =
-    let at = (goal.at.invariant_of-result g c).In-None in
-    let all = all_read g at in
-    let most = few g at in
-    let room : length at.loop-row.rows.items ≤ 64 = omega (arith, most, all) in
-    record { few = search rules }
 
 pub returns-clause-fault : goal.returns-clause-fault
 returns-clause-fault g c = no_fault g (goal.at.returns-clause-fault g c).In-None
