@@ -19,7 +19,9 @@ pub(crate) fn earliest<B: TimeBook>(
 {
     let mut best = None;
     for to in set.moves.iter() {
-        best = sooner(best, next_tick(book, *to, since, latest));
+        if let Some(to) = to {
+            best = sooner(best, next_tick(book, to.row, since, latest));
+        }
     }
     best
 }
@@ -28,5 +30,10 @@ pub(crate) fn earliest<B: TimeBook>(
 fn sooner(a: Option<u32>, b: Option<u32>) -> Option<u32>
     ensures { result ≡ sooner_of a b }
 {
-    a.zip(b).map(|(a, b)| a.min(b)).or(a).or(b)
+    // By `zip`, `map` and `or` a forecast takes half as many instructions again.
+    match (a, b) {
+        (Some(a), Some(b)) => Some(a.min(b)),
+        (Some(a), None) => Some(a),
+        (None, b) => b,
+    }
 }

@@ -49,8 +49,8 @@ impl<B: TimeBook> Session<B> {
             }
             LocalKind::Receiving { partner } => {
                 let message = channels.oldest(partner, role)?;
-                let to = move_in(set, message.label);
-                next_tick(&self.book, to, record.since, latest)
+                let to = move_in(set, message.label)?;
+                next_tick(&self.book, to.row, record.since, latest)
             }
         }
     }
