@@ -1,27 +1,14 @@
 -- The pieces of a kind, one by one.
-use Rattle.std.proofs.Common.{◌≡◌, ℕ, ◌+◌, ◌<◌, ◌≤◌, Bool, true, false, cond, ltb, [], ◌∷◌, map, length, get_or, drop, Some, None, sym, refl, ap, ◌∙◌, arith, ltb-false}
-use Rattle.std.proofs.lemmas.List.{get_or_past, drop_more, drop-map}
+use Rattle.std.proofs.Common.{◌≡◌, ℕ, ◌+◌, ◌<◌, [], ◌∷◌, map, length, get_or, drop, sym, ap, ◌∙◌}
+use Rattle.std.proofs.lemmas.List.{drop_more, drop-map}
 use Rattle.sheet.specs.Decode.{state_of}
 use Rattle.sheet.proofs.Bodies.{state_of_body}
 use Rattle.sheet.specs.Encode.{body}
 use Rattle.sheet.specs.Model.{Sheet, ended}
 use Rattle.reading.specs.declared.piece.Kind.{Kind}
 use Rattle.reading.specs.declared.piece.Kind.TheVariants.{Role, Label, State}
-use Rattle.reading.specs.Handing.{Part, counts_of, piece_count_of, piece_of, handed}
+use Rattle.reading.specs.Handing.{counts_of, piece_count_of, piece_of}
 use Rattle.sheet_page.specs.Pieces.{pieces_of}
-
-past : (sh : Sheet) (kind : Kind) (n : ℕ) → piece_count_of (counts_of sh) kind ≤ n → [] ≡ piece_of sh kind n
-past sh Role n h = sym (get_or_past sh.roles n [] h)
-past sh Label n h = sym (get_or_past sh.labels n [] h)
-past sh State n h = sym (ap body (get_or_past sh.states n ended h))
-
-not_taken : (b : Bool) (x : Part) → None ≡ cond b (Some x) None → b ≡ false
-not_taken true x e = let z : ◌≡◌ {A = ℕ} 0 1 = cc in absurd (omega arith)
-not_taken false x e = refl
-
--- where none is handed out, there are no bytes
-pub none_handed : (sh : Sheet) (kind : Kind) (n : ℕ) → None ≡ handed sh kind n → [] ≡ piece_of sh kind n
-none_handed sh kind n e = past sh kind n (ltb-false n (piece_count_of (counts_of sh) kind) (not_taken (ltb n (piece_count_of (counts_of sh) kind)) _ e))
 
 -- the piece with a number, and those after it
 pub next_piece : (sh : Sheet) (kind : Kind) (n : ℕ) → n < piece_count_of (counts_of sh) kind → drop n (pieces_of sh kind) ≡ piece_of sh kind n ∷ drop (n + 1) (pieces_of sh kind)
