@@ -1,7 +1,7 @@
 //! Each kind of book beside its plain meaning.
 
 use crate::compare::{Tally, trial};
-use crate::plain::{Plain, PlainReach};
+use crate::plain::{Plain, PlainNear, PlainReach};
 use crate::tables::{ENDS, SLOTS, bytes_of, marks};
 use books::fault::BookFault;
 use books::margin::Margin;
@@ -16,6 +16,16 @@ pub(crate) fn beside<B: TimeBook + Drop, P: Plain>(
     plain: &P,
 ) -> Result<Tally, BookFault> {
     Ok(trial(&book?, plain, &ENDS))
+}
+
+/// A margin over a book, where there is one, beside the same margin over its plain meaning.
+pub(crate) fn near<B: TimeBook + Drop, P: Plain + Drop>(
+    below: Result<B, BookFault>,
+    plain: P,
+    by: u32,
+) -> Result<Tally, BookFault> {
+    let book = below.map(|below| Margin::over(below, by));
+    beside(book, &PlainNear { below: plain, by })
 }
 
 /// How many rows another firm's book has.
@@ -54,7 +64,7 @@ pub(crate) fn merged_marks(inner: u32, outer: u32) -> Tally {
 
 /// How many questions a margin, and one over it, ask the book at the bottom for two of their own.
 pub(crate) fn questions(by: u32) -> Result<(u32, u32), BookFault> {
-    let asked = Asked::new();
+    let asked = Asked::default();
     let bytes: [u8; 144] = bytes_of(&SLOTS);
     let below = Counted {
         below: Slots::read(&bytes)?,

@@ -10,11 +10,10 @@ mod tables;
 use arguments::task::run;
 use books::cases::worked_cases;
 use books::fault::BookFault;
-use books::margin::Margin;
 use books::slots::Slots;
 use books::windows::Windows;
 use compare::Tally;
-use plain::{PlainNear, PlainRows};
+use plain::PlainRows;
 use std::io;
 use tables::{SLOTS, WINDOWS, bytes_of};
 
@@ -50,14 +49,8 @@ fn try_all(rt: &HostRuntime) -> io::Result<()> {
     let slots = PlainRows { rows: &SLOTS };
     let window_bytes: [u8; 96] = bytes_of(&WINDOWS);
     let slot_bytes: [u8; 144] = bytes_of(&SLOTS);
-    let near_windows = |by| {
-        let book = Windows::read(&window_bytes).map(|below| Margin::over(below, by));
-        kinds::beside(book, &PlainNear { below: windows, by })
-    };
-    let near_slots = |by| {
-        let book = Slots::read(&slot_bytes).map(|below| Margin::over(below, by));
-        kinds::beside(book, &PlainNear { below: slots, by })
-    };
+    let near_windows = |by| kinds::near(Windows::read(&window_bytes), windows, by);
+    let near_slots = |by| kinds::near(Slots::read(&slot_bytes), slots, by);
     report(
         rt,
         "windows",

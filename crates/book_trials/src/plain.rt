@@ -5,6 +5,8 @@ use mark_book::Mark;
 /// The greatest clock value.
 pub(crate) const LAST: u64 = 4_294_967_295;
 
+// Row and value as a time book takes them.
+
 /// A set of clock values for each row.
 pub(crate) trait Plain {
     /// Whether the value is in the row's set.

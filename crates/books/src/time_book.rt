@@ -6,6 +6,7 @@ ghost use Rattle.book_rows.specs.Sets.{Holds, Bounded};
 
 /// A book of 0 to 64 rows. Each row is a set of clock values from 0 to 4,294,967,295, and a row number
 /// that is not below the count has the empty set. Neither question changes the book.
+// A row and a value are two parameters: every book takes them apart at once, and other firms write books.
 pub trait TimeBook {
     /// How many rows the book has.
     ghost count: { Self → ℕ };

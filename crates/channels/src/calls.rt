@@ -8,6 +8,8 @@ use crate::channels::Channels;
 use crate::number::index;
 use events::message::Message;
 
+// A pair of roles is two numbers: a session has them as an event's role and partner, in either order, and `index`
+// alone takes them together.
 impl Channels {
     /// Nothing under way.
     pub fn empty() -> Channels

@@ -6,7 +6,8 @@ use events::message::Message;
 use queue::queue::Queue;
 
 /// Where a queue stands in its slots: the oldest message in slot `first`, and how many there are.
-// Fixed memory: a channel keeps this and its slots, and a queue is resumed in them at each call.
+// Fixed memory: an `ArrayVec` would move every message at each taking, so a channel keeps its slots and the place of a
+// queue in them.
 #[derive(Clone, Copy)]
 pub(crate) struct Place {
     pub(crate) first: usize,

@@ -13,6 +13,7 @@ use sheet::fault::ReadFault;
 use stops::stop::Stop;
 
 /// Why an input's events are not watched: the fault of the layer that refuses, carried whole.
+// An impl for each fault that `?` turns: they differ in the case, and no derive of the library writes them.
 #[derive(Clone, Copy)]
 pub enum ConsoleFault {
     /// 61: the input is broken.

@@ -7,6 +7,7 @@ use stops::stop::Stop;
 
 /// Why a session is not opened, or an event or a forecast is stopped: one case for each of the stops 31, 32 and 41 to 47.
 /// The last seven have the event's role and label as they were handed in.
+// Each case names its places itself, as callers match on it: a struct of the two would be one more name to open.
 #[derive(Clone, Copy, PartialEq, Eq, Debug)]
 pub enum SessionFault {
     /// 31: the book has fewer rows than the sheet counts.

@@ -10,6 +10,7 @@ use sheet::fault::ReadFault;
 use stops::stop::Stop;
 
 /// Why an input is not listed with all parts of a sheet.
+// An impl for each fault that `?` turns: they differ in the case, and no derive of the library writes them.
 #[derive(Clone, Copy, PartialEq, Eq, Debug)]
 pub enum ListFault {
     /// 61: the input has more bytes than a sheet's offsets can name.

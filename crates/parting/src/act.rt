@@ -27,6 +27,7 @@ pub struct Act {
 
 impl Act {
     // Whether both acts are on the same side, with the same partner.
+    // Two of seven fields: a derive would compare them all.
     #[tactic(auto, using(crate::proofs::Ways::way_eq), unfolding(crate::specs::Judge::is_same_side))]
     pub(crate) fn is_same_side(self, other: Act) -> bool
         ensures { result ≡ is_same_side self other }
@@ -35,6 +36,7 @@ impl Act {
     }
 
     // Whether both acts have the same time row and the same reset.
+    // Two of seven fields, as above.
     #[tactic(auto, unfolding(crate::specs::Judge::is_same_timing))]
     pub(crate) fn is_same_timing(self, other: Act) -> bool
         ensures { result ≡ is_same_timing self other }

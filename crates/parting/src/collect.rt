@@ -10,6 +10,7 @@ use arrayvec::ArrayVec;
 pub(crate) const MOST: usize = 512;
 
 // What `give` gives of the elements, in their order.
+// A loop: the library's `collect` takes an allocator, which there is none of here.
 pub(crate) fn collect<T: Copy, U: Default + Drop, F: Fn(T) -> Option<U>>(
     from: &[T],
     give: F,

@@ -15,6 +15,8 @@ use std::marker::Model;
 
 /// Steps from state to state, in the order of the sheet. A mask can hold each of their states.
 #[derive(Drop)]
+// As `Acts`, with another invariant: one type for both would need a trait whose law is the invariant, and an impl for
+// each.
 pub(crate) struct Edges {
     list: ArrayVec<Edge, MOST>,
 }

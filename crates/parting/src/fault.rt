@@ -6,6 +6,7 @@ ghost use Rattle.parting.specs.Stop.{stopped};
 use stops::stop::Stop;
 
 /// Why a sheet is not accepted, and where: one case for each of the stops 21 to 25, with the role and the set.
+// Each case names its places itself, as callers match on it: a struct of the two would be one more name to open.
 #[derive(Clone, Copy, PartialEq, Eq, Debug)]
 pub enum PartFault {
     /// 21: the role is not on the same side, with the same partner, in all states of the set where it acts.

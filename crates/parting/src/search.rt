@@ -9,6 +9,8 @@ use queue::queue::Queue;
 
 /// The sets of a role that have been found, as masks, in the order in which they were found. The first ones
 /// have been judged; the others wait for that in a queue.
+// The queue holds again what `found` has from `judged` on: it is agreed that a worklist stands in a queue over handed
+// slots. That `judged` stays is a clause of each function that enters sets: only `next` moves it.
 #[derive(Drop)]
 pub(crate) struct Search<'a> {
     pub found: ArrayVec<u64, 32>,

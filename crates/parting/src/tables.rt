@@ -32,6 +32,7 @@ fn kind_of(acts: &[Act]) -> LocalKind
 }
 
 // Where a set stands among those found; their number, where it does not.
+// No `Option`: what follows a set is always found, and the definition has the number of sets for the other case.
 fn position(found: &[u64], set: u64) -> usize
     ensures { result ≡ position_in set found.now }
 {
@@ -42,6 +43,7 @@ fn position(found: &[u64], set: u64) -> usize
 }
 
 #[tactic(auto, unfolding(crate::specs::Tables::move_under))]
+// The sets found go beside the view: a struct of both would be made in `table` alone and lend each of them.
 fn move_of(here: &SetView<'_>, found: &[u64], label: u8) -> Option<Move>
     ensures { result ≡ move_under here.now.silent.now found.now here.now.acts label }
 {
@@ -81,6 +83,7 @@ pub(crate) fn table(view: &View, found: &[u64]) -> Part
 {
     let mut part = Part::default();
     part.count = found.len();
+    // By number: the table has 32 sets and fewer are found, so `from_fn` would ask of each number whether it is one.
     for (i, states) in found.iter().enumerate() {
         part.sets[i] = local_set(view, found, *states);
     }

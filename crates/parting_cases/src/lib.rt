@@ -33,6 +33,7 @@ impl Bytes {
         self.push(&((number % 65_536) as u16).to_be_bytes());
     }
 
+    // The counts go apart, as a header has them: the functions need different ones.
     // The edition, the counts, the pairs of the names and the names' own lengths; every name has one byte.
     fn push_header(&mut self, roles: u8, labels: u8, states: usize, rows: u8) {
         self.push(&[1, roles, labels, (states % 256) as u8, rows]);
@@ -100,6 +101,7 @@ pub(crate) fn parted(bytes: &[u8]) -> Result<(), Stop> {
 }
 
 /// How many sets a role has, and the masks of its first four; none where it has no part.
+// As in `trials`, which rests on sessions: these cases rest on parting alone.
 pub fn first_sets(sheet: &Bytes, role: usize) -> Option<(usize, [u64; 4])> {
     let sheet = read(sheet.written.as_slice()).ok()?;
     let accepted = part(sheet).ok()?;

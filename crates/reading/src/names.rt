@@ -23,6 +23,7 @@ pub fn same_name(a: &[u8], b: &[u8]) -> bool
 fn check_bytes(name: Stretch<'_>) -> Result<(), ReadFault>
     ensures { fault_of result ≡ byte_fault name.entry.offset name.entry.bytes.now }
 {
+    // A `match`: in `map_or` the sum would stand in a closure, with a `requires` that keeps it in range.
     match name.bytes.iter().position(|byte| !byte.is_ascii_graphic()) {
         Some(at) => Err(ReadFault::Byte {
             offset: name.offset + at,

@@ -58,6 +58,8 @@ pub fn split_branch(bytes: &[u8]) -> Option<(Branch, &[u8])>
 
 /// The branches in a state's branch bytes, one by one.
 #[derive(Drop)]
+// As `Events` of `input` and `Calls` of `replay`: one type for all would need a trait with a law of what is left, an
+// impl for each, and a crate below all three.
 pub struct Branches<'a> {
     left: &'a [u8],
 }

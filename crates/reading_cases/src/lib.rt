@@ -21,7 +21,8 @@ const OVEN: [u8; 77] = [
 
 // What reading answers: nothing, or the stop.
 fn answer(bytes: &[u8]) -> Result<(), Stop> {
-    read(bytes).map(|_| ()).map_err(Stop::from)
+    read(bytes)?;
+    Ok(())
 }
 
 fn changed(changes: &[(usize, u8)]) -> [u8; 77] {

@@ -27,9 +27,7 @@ pub(crate) fn opened_bytes(counts: Counts) -> [u8; 5]
 }
 
 /// The bytes of an answer to a call.
-pub(crate) fn answer_bytes(answer: Result<Reply, SessionFault>) -> [u8; 8]
-    ensures { length result ≡ 8 }
-{
+pub(crate) fn answer_bytes(answer: Result<Reply, SessionFault>) -> [u8; 8] {
     match answer {
         Ok(Reply::Passed { answer }) => plain(0, answer),
         Ok(Reply::Next { tick: Some(tick) }) => plain(2, tick),

@@ -26,7 +26,7 @@ pub extern "C" fn rekdeuy_replay(input: &[u8], output: &mut [u8]) -> usize
     let Some(script) = split(input) else {
         return 0;
     };
-    // No plainer by `unwrap_or_else`: its closure would write the output that `run` was lent.
+    // A `match`: in `unwrap_or_else` the closure would change the output, and need a contract that says what it keeps.
     match run(script, output) {
         Ok(written) => written,
         Err(stop) => put_stop(output, stop),

@@ -29,9 +29,7 @@ pub(crate) fn play<B: TimeBook + Drop>(
     ensures { MatchResult result (λ n. Kept n output.old output.new) (λ _. output.new ≡ output.old) }
 {
     let counts = accepted.counts();
-    let session = Session::open(accepted, book, script.tick, script.depth).map_err(
-        |unopened| unopened.fault,
-    )?;
+    let session = Session::open(accepted, book, script.tick, script.depth)?;
     Ok(answer(session, counts, script, output))
 }
 

@@ -14,6 +14,9 @@ use reading::read::read;
 use reading::read_sheet::ReadSheet;
 use stops::stop::Stop;
 
+// The output stands beside the script: the one is written, the other lent and copied. That a stop leaves it as it
+// was, `run`, `run_by` and `play` each say, since each hands on the next one's.
+
 /// Writes the answers to a script, or answers the stop that comes before its calls.
 pub(crate) fn run(script: Script<'_>, output: &mut [u8]) -> Result<usize, Stop>
     ensures { MatchResult result (λ n. Kept n output.old output.new) (λ _. output.new ≡ output.old) }

@@ -17,6 +17,7 @@ impl<B: TimeBook> Session<B> {
         ensures kept { (self.new.accepted ≡ self.old.accepted) × (self.new.book ≡ self.old.book) }
         ensures whole { (sh : Sheet) (opening depth : ℕ) (es : List Event) → SessionWatches B.TimeBook.admits sh opening depth es self.old → Right sh (B.TimeBook.admits self.old.book) opening depth es call (Some result) × SessionWatches B.TimeBook.admits sh opening depth (after es call (Some result)) self.new }
     {
+        // A match on the enum: each call has a reply of its own case.
         match call {
             Call::Judge { event } => Ok(Reply::Passed {
                 answer: self.event(event)?,

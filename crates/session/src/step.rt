@@ -3,6 +3,7 @@
 use parting::local::Move;
 
 /// Which way a message goes.
+// As `Way` of `parting`, which is private there: it would be made public for two words.
 #[derive(Clone, Copy)]
 pub(crate) enum Direction {
     Sends,

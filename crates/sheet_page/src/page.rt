@@ -21,6 +21,7 @@ pub struct Page<'a> {
     pub sheet: &'a ReadSheet,
 }
 
+// Kind and number as `ReadSheet::piece` takes them: a struct of the two would be made for each call and opened there.
 impl Page<'_> {
     /// Puts the bytes of the piece of that kind and number.
     pub fn put_piece(&mut self, kind: Kind, number: usize) -> Result<(), AllocError>

@@ -5,6 +5,7 @@ ghost use Rattle.std.specs.Option.{option_map};
 ghost use Rattle.stops.specs.Words.{words, word_of, Rising, Named};
 
 /// A stop's number and the word that the programs print for it.
+// The number as `Stop` has it; `layer_of` says why it is no enum.
 #[derive(Clone, Copy, PartialEq, Eq, Debug)]
 pub struct Entry {
     pub number: u8,

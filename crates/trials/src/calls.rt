@@ -21,9 +21,7 @@ pub fn opened<B: TimeBook + Drop>(
     tick: u32,
     depth: u8,
 ) -> Result<Session<B>, Stop> {
-    Session::open(accepted(bytes)?, book, tick, depth).map_err(|unopened| Stop::from(
-        unopened.fault,
-    ))
+    Ok(Session::open(accepted(bytes)?, book, tick, depth)?)
 }
 
 /// What a session says to what is put to it.

@@ -8,7 +8,7 @@ use stops::stop::Stop;
 
 /// How often a session's book is asked `holds`, and `next`, for all that is put to the session.
 pub fn questions(bytes: &[u8], book: Windows, puts: &[Put]) -> Result<(u32, u32), Stop> {
-    let asked = Asked::new();
+    let asked = Asked::default();
     let counted = Counted {
         below: book,
         asked: &asked,

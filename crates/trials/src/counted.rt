@@ -6,21 +6,13 @@ use books::time_book::TimeBook;
 use std::cell::Cell;
 
 /// How often a book was asked whether a value holds, and how often for the next.
-#[derive(Drop)]
+#[derive(Default, Drop)]
 pub struct Asked {
     pub holds: Cell<u32>,
     pub nexts: Cell<u32>,
 }
 
 impl Asked {
-    /// Not asked yet.
-    pub fn new() -> Asked {
-        Asked {
-            holds: Cell::new(0),
-            nexts: Cell::new(0),
-        }
-    }
-
     /// How often in all.
     pub fn total(&self) -> u32 {
         self.holds.get().wrapping_add(self.nexts.get())

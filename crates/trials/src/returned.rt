@@ -16,7 +16,7 @@ const HEAT: Put = Put::Event(0, 0, 1, 0, 103);
 
 /// A session opened with these.
 fn opened_short(accepted: Accepted, book: Windows) -> Result<Session<Windows>, Stop> {
-    Session::open_short(accepted, book, 100).map_err(|unopened| Stop::from(unopened.fault))
+    Ok(Session::open_short(accepted, book, 100)?)
 }
 
 /// What a session opened with these says to HEAT.

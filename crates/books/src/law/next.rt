@@ -12,6 +12,7 @@ pub fn next_agrees<B: TimeBook>(book: &B, row: u8, value: u32) -> bool
     ensures law { (b : B) (row : ℕ) → NextLaws (B.TimeBook.admits b row) }
 {
     let here = book.holds(row, value);
+    // A `match`: `map_or` would put the case of none first and the other into a closure.
     match book.next(row, value) {
         Some(next) => book.holds(row, next) && here == (next == value),
         None => !here,

@@ -25,7 +25,8 @@ impl<R: RowKind> RowBook<R> {
             return Err(BookFault::Rows { given });
         }
         let mut rows = ArrayVec::new();
-        // `collect` into a `Result` would not say which row stopped it.
+        // A loop: the library's `collect` takes an allocator, and its contract says what an `Ok` holds and not which row
+        // stopped it.
         for (row, part) in bytes.chunks_exact(R::SIZE).enumerate() {
             rows.push(R::decode(part).ok_or(BookFault::Row { row })?);
         }
