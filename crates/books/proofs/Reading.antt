@@ -4,6 +4,7 @@ use native.Mathlib.Numerals.{unary_clauses}
 use Rattle.std.proofs.Math.Nat.{le-div_iff_mul-le}
 use Rattle.std.proofs.Math.Seq.{drop-append_seam, take-append_seam, get_or-append_seam}
 use Rattle.std.proofs.lemmas.List.{length-drop, length-append, drop-drop, get_or_append_left}
+use Rattle.std.proofs.lemmas.Nat.{mul-le, div-add-mod'}
 use Rattle.std.proofs.lemmas.Option.{MatchOption-at_some, MatchOption-at_none, slice_get_cases}
 use Rattle.std.proofs.lemmas.Bool.{cond-true, cond-false, and_from, and_parts, eq-eqb, eqb-true, le-leb, leb-true, cond_both, both_ways}
 use Rattle.books.specs.declared.fault.BookFault.{BookFault}
@@ -13,6 +14,12 @@ use Rattle.book_rows.specs.Sets.{Same}
 use Rattle.books.specs.Faults.{bad_from, fault_of, whole}
 use Rattle.books.specs.Rows.{Whole, Ruled, Judged}
 use Rattle.books.specs.Tables.{AmongRows}
+
+-- a row ends within the bytes
+pub row_ends : (size given row : ℕ) → row < given / size → row * size + size ≤ given
+row_ends size given row h =
+    let m : (row + 1) * size ≤ given / size * size = mul-le (row + 1) size (given / size) size (omega arith) (omega arith) in
+    omega (arith, m, add-mul row 1 size, div-add-mod' given size)
 
 module _ (size : ℕ) (rule : List ℕ → Bool) (bytes : List ℕ) (n i : ℕ) where
   bad_more : i < n → rule (row_at size bytes i) ≡ true → bad_from size rule bytes i (n - i) ≡ bad_from size rule bytes (i + 1) (n - (i + 1))

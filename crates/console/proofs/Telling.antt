@@ -1,5 +1,6 @@
 -- The calls that events are, one by one, and what is told of them.
-use Rattle.std.proofs.Common.{◌≡◌, ℕ, List, [], ◌∷◌, ◌++◌, map, IfOk, Some, None, Ok, Err, Option, Result, sym, refl, ap, ◌∙◌, subst, MatchOption}
+use Rattle.std.proofs.Common.{◌≡◌, ℕ, List, [], ◌∷◌, ◌++◌, map, IfOk, Some, None, Ok, Err, Option, Result, sym, refl, ap, ◌∙◌, subst, append_assoc, MatchOption}
+use Rattle.std.proofs.lemmas.List.{map_push}
 use Rattle.text.specs.StopLine.{line_of_stop}
 use Rattle.books.specs.declared.fault.BookFault.{BookFault}
 use Rattle.sheet.specs.Decode.{model}
@@ -9,11 +10,13 @@ use Rattle.reading.specs.Handing.{counts_of}
 use Rattle.protocol.specs.Accepted.{Accepted as CanBeParted}
 use Rattle.runs.specs.Run.{Book}
 use Rattle.events.specs.declared.event.Event.{Event}
+use Rattle.input.specs.Bytes.{event_bytes}
 use Rattle.input.specs.Events.{events_in}
+use Rattle.input.proofs.Decoding.{event_next}
 use Rattle.input.specs.Laid.{Broken}
 use Rattle.input.specs.Split.{Splits}
 use Rattle.input.specs.declared.script.Script.{Script}
-use Rattle.session.specs.Calls.{calls, passed, Prescribed}
+use Rattle.session.specs.Calls.{call_of, calls, passed, Prescribed}
 use Rattle.session.specs.Outcomes.{Closes}
 use Rattle.events.specs.declared.closing.Early.{Early}
 use Rattle.console.specs.Faults.{stop_for, watch_fault}
@@ -22,6 +25,7 @@ use Rattle.console.specs.Told.{Watched, PartsTold, Told}
 use Rattle.console.specs.Transcript.{transcript}
 use Rattle.console.specs.declared.fault.ConsoleFault.{ConsoleFault}
 use Rattle.console.specs.declared.fault.ConsoleFault.TheVariants.{Cut}
+use Rattle.events.specs.declared.call.Call.{Call}
 use Rattle.events.specs.declared.call.Call.TheVariants.{Judge}
 use Rattle.events.specs.declared.call.Entry.{Entry}
 
@@ -29,6 +33,16 @@ use Rattle.events.specs.declared.call.Entry.{Entry}
 pub asks_events : (es : List Event) → calls (map unanswered es) ≡ map Judge es
 asks_events [] = refl
 asks_events (e ∷ es) = ap (λ l. Judge e ∷ l) (asks_events es)
+
+-- one more event is one more call
+pub log_more : (log log' : List Entry) (bytes rest : List ℕ) (e : Event) (all : List Call) → log' ≡ log ++ (unanswered e ∷ []) → event_bytes e ++ rest ≡ bytes → calls log ++ map Judge (events_in bytes) ≡ all
+    → calls log' ++ map Judge (events_in rest) ≡ all
+log_more log log' bytes rest e all pushed first inv =
+    ap (λ l. calls l ++ map Judge (events_in rest)) pushed
+    ∙ ap (λ w. w ++ map Judge (events_in rest)) (map_push call_of log (unanswered e))
+    ∙ append_assoc (calls log) (Judge e ∷ []) (map Judge (events_in rest))
+    ∙ ap (λ es. calls log ++ map Judge es) (sym (event_next e rest) ∙ ap events_in first)
+    ∙ inv
 
 -- what was added is what the parts are told as
 pub shown_by : {T E : Type 0} (r : Result T E) (x z t : List ℕ) (P : List ℕ → Type 0) → P t → IfOk r (λ _. z ≡ x ++ t) → IfOk r (λ _. (shown : List ℕ) × (z ≡ x ++ shown) × P shown)

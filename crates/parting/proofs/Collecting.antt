@@ -8,6 +8,10 @@ use Rattle.parting.specs.Lists.{listed}
 abbrev pub Collecting : {X Y : Type 0} → (X → List Y) → List X → List Y → ℕ → Type 0
 Collecting f xs found i = found ++ flat_map f (drop i xs) ≡ flat_map f xs
 
+-- the same, of another name for what was found
+pub collecting_at : {X Y : Type 0} (f : X → List Y) (xs : List X) (found : List Y) (i : ℕ) (same : List Y) → same ≡ found → Collecting f xs found i → Collecting f xs same i
+collecting_at f xs found i same e c = rw e c
+
 -- those that pass a test
 abbrev pub kept : {X : Type 0} → (X → Bool) → X → List X
 kept p x = cond (p x) (x ∷ []) []

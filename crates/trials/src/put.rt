@@ -1,5 +1,8 @@
 //! What is put to a session.
 
+ghost use Rattle.std.specs.Prelude.{◌≡◌};
+ghost use Rattle.trials.specs.Puts.{call_for};
+
 use events::call::Call;
 use events::event::Event;
 use std::fmt;
@@ -13,6 +16,8 @@ pub enum Put {
 }
 
 impl From<Put> for Call {
+    ghost from_gives = { λ put call. call ≡ call_for put };
+
     fn from(put: Put) -> Call {
         match put {
             Put::Event(role, direction, partner, label, tick) => Call::Judge {
