@@ -42,8 +42,8 @@ fn position(found: &[u64], set: u64) -> usize
         .unwrap_or(found.len())
 }
 
-#[tactic(auto, unfolding(crate::specs::Tables::move_under))]
 // The sets found go beside the view: a struct of both would be made in `table` alone and lend each of them.
+#[tactic(auto, unfolding(crate::specs::Tables::move_under))]
 fn move_of(here: &SetView<'_>, found: &[u64], label: u8) -> Option<Move>
     ensures { result ≡ move_under here.now.silent.now found.now here.now.acts label }
 {

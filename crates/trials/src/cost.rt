@@ -7,6 +7,7 @@ use books::windows::Windows;
 use stops::stop::Stop;
 
 /// How often a session's book is asked `holds`, and `next`, for all that is put to the session.
+// A sheet's bytes and a book: `Case` has them with a title and calls, which this does not need.
 pub fn questions(bytes: &[u8], book: Windows, puts: &[Put]) -> Result<(u32, u32), Stop> {
     let asked = Asked::default();
     let counted = Counted {

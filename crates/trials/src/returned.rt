@@ -25,6 +25,7 @@ fn heated(accepted: Accepted, book: Windows) -> Result<Reply, Stop> {
 }
 
 /// An opening with depth 0, and what a session opened with what it gave back says to HEAT.
+// A sheet's bytes and a book: `Case` has them with a title and calls, which this does not need.
 pub fn after_opening(bytes: &[u8], book: Windows) -> Result<Again, Stop> {
     match Session::open(accepted(bytes)?, book, 100, 0) {
         Ok(session) => {
@@ -39,6 +40,7 @@ pub fn after_opening(bytes: &[u8], book: Windows) -> Result<Again, Stop> {
 }
 
 /// What closing says after HEAT, and what a session opened with what it gave back says to HEAT.
+// As `after_opening`.
 pub fn after_closing(bytes: &[u8], book: Windows) -> Result<Again, Stop> {
     let mut session = opened_short(accepted(bytes)?, book)?;
     let _ = ask(&mut session, HEAT);

@@ -1,12 +1,11 @@
 use Rattle.std.proofs.Common.{◌≡◌, refl, ap, ◌∙◌}
 use Rattle.std.proofs.lemmas.List.{take_at}
 use Rattle.text.specs.Growing.{said}
-use Rattle.text.specs.StopLine.{line_of_stop}
 use Rattle.input.specs.Events.{events_in}
 use Rattle.session.specs.Calls.{calls}
 use Rattle.console.specs.Told.{PartsTold}
 use Rattle.console.specs.Transcript.{transcript}
-use Rattle.console.proofs.Telling.{asks_events, shown_by, parts_watched, parts_stopped}
+use Rattle.console.proofs.Telling.{asks_events, shown_by, parts_watched}
 use Rattle.console.proofs.run.put_script.Goals as goal
 
 pub returns-in-Ok : goal.returns-in-Ok
@@ -27,14 +26,3 @@ returns-in-Ok g c =
     (parts_watched g.B.ReadBook.refusal g.B.ReadBook.rows_in g.B.ReadBook.allows sheet book tick events text seen.counts log shown seen.closing
     watched.judged watched.whole.0 watched.whole.1 watched.whole.2 watched.whole.3 watched.whole.4 asked same refl)
     c.put_transcript.ensures
-
-pub returns : goal.returns
-returns g c =
-    let sheet = c.args.script.sheet.now in
-    let book = c.args.script.book.now in
-    let tick = c.args.script.tick in
-    let events = events_in c.args.script.events.now in
-    let text = line_of_stop c.from.result in
-    shown_by c.put_stop.result (said c.args.text.now) _ text (PartsTold g.B.ReadBook.refusal g.B.ReadBook.rows_in g.B.ReadBook.allows sheet book tick events)
-    (parts_stopped g.B.ReadBook.refusal g.B.ReadBook.rows_in g.B.ReadBook.allows sheet book tick events text c.in-Err.fault c.in-Err.ensures.judged (ap line_of_stop c.from.ensures))
-    c.put_stop.ensures

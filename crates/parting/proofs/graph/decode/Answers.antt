@@ -6,7 +6,7 @@ use Rattle.reading.specs.Reads.{sheet_of}
 use Rattle.parting.specs.Bounds.{SmallPlaces}
 use Rattle.parting.specs.View.{place_of, places_of, places}
 use Rattle.parting.proofs.Bounding.{small_places_lem}
-use Rattle.parting.proofs.Decoding.{decoded_none, decoded_more, decoded_all, few_places, sheet_valid}
+use Rattle.parting.proofs.Decoding.{decoded_more, decoded_all, few_places, sheet_valid}
 use Rattle.parting.proofs.graph.decode.Goals as goal
 
 pub decode_state-requires : goal.decode_state-requires
@@ -19,9 +19,6 @@ decode_state-requires c =
     let few = few_places sh (sheet_valid c.args.sheet.now) s s under in
     let e = ap (λ x. length (places_of s x)) is in
     omega (arith, few, e, c.loop-state.invariant.bound, (sheet_valid c.args.sheet.now).state_count.1)
-
-pub loop-state-init : goal.loop-state-init
-loop-state-init c = decoded_none (sheet_of c.args.sheet.now).states _ c.new-transitions.ensures
 
 pub loop-state-preserved : goal.loop-state-preserved
 loop-state-preserved c =
@@ -41,6 +38,3 @@ made c =
 
 pub invariant_of-result : goal.invariant_of-result
 invariant_of-result c = subst SmallPlaces (sym (made c)) (small_places_lem (sheet_of c.args.sheet.now) (sheet_valid c.args.sheet.now))
-
-pub returns : goal.returns
-returns c = made c

@@ -1,4 +1,4 @@
-use Rattle.std.proofs.Common.{get_or, sym, refl, ap, ◌∙◌, arith}
+use Rattle.std.proofs.Common.{get_or}
 use Rattle.reading.specs.Reads.{sheet_of}
 use Rattle.parting.specs.Blank.{no_part}
 use Rattle.parting.proofs.Decoding.{sheet_valid}
@@ -21,15 +21,4 @@ returns-in-Ok c =
           found = all.each;
         },
       );
-    }
-
-pub returns-in-Err : goal.returns-in-Err
-returns-in-Err c = record { judged = c.in-Err.ensures.fault; whole = (c.in-Err.ensures.parts, refl) }
-
-pub invariant_of-result : goal.invariant_of-result
-invariant_of-result c =
-    let roles = ap (λ k. k.roles) c.counts.ensures.value in
-    record {
-      few = omega (arith, roles, (sheet_valid c.args.sheet).role_count.1);
-      each = c.in-Ok.ensures.parts.count ∙ sym roles;
     }

@@ -1,4 +1,4 @@
-use Rattle.std.proofs.Common.{◌≡◌, ◌<◌, ◌≤◌, ◌+◌, List, length, get_or, sym, ap, ◌∙◌, subst, arith}
+use Rattle.std.proofs.Common.{◌≡◌, ◌<◌, ◌+◌, List, length, get_or, sym, ap, ◌∙◌, subst, arith}
 use Rattle.std.proofs.lemmas.Result.{err_from_is_err_and}
 use Rattle.std.proofs.lemmas.List.{length_push}
 use Rattle.reading.specs.Reads.{sheet_of}
@@ -7,7 +7,7 @@ use Rattle.parting.specs.Family.{View, view_of, family_of, stopped}
 use Rattle.parting.specs.Parts.{Parted, family}
 use Rattle.parting.specs.View.{places}
 use Rattle.parting.proofs.Decoding.{sheet_valid}
-use Rattle.parting.proofs.Roles.{Tabled, faults_more, faults_stop, faults_all, faults_start, tabled_more, stopped_refused}
+use Rattle.parting.proofs.Roles.{Tabled, faults_more, faults_stop, faults_start, tabled_more, stopped_refused}
 use Rattle.parting.proofs.part.parts_of.Goals as goal
 
 pub loop-role-init : goal.loop-role-init
@@ -63,18 +63,3 @@ returns-in_err-part c =
       fault = sym (faults_stop sh l.role (length sh.roles) f within e) ∙ l.invariant.unfaulted;
       parts = stopped_refused sh (sheet_valid s) l.role f within e;
     })
-
-pub returns : goal.returns
-returns c =
-    let s = c.args.sheet.now in
-    let sh = sheet_of s in
-    let l = c.loop-role in
-    let roles = ap (λ k. k.roles) c.counts-counts.ensures.value in
-    let reached : length sh.roles ≤ l.role = omega (arith, roles, c.loop-role-test.false) in
-    record {
-      fault = sym (faults_all sh l.role (length sh.roles) reached) ∙ l.invariant.unfaulted;
-      parts = record {
-        count = omega (arith, l.invariant.counted, roles, reached, l.auto.role-end);
-        each = λ m h d. l.invariant.tabled m (omega arith) d;
-      };
-    }

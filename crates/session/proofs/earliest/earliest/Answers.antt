@@ -1,12 +1,9 @@
 use Rattle.std.proofs.Common.{◌≡◌, ℕ, Some, sym, ◌∙◌, subst, arith}
 use Rattle.runs.specs.Laws.{Least}
 use Rattle.session.specs.Earliest.{SomeMove}
-use Rattle.session.proofs.Leasts.{moves_none, moves_skip, moves_more}
+use Rattle.session.proofs.Leasts.{moves_skip, moves_more}
 use Rattle.session.proofs.earliest.earliest.Goals as goal
 use Rattle.session.proofs.earliest.earliest.Goals.{in-Some, in_default}
-
-pub loop-to-init : goal.loop-to-init
-loop-to-init g c = λ h. moves_none (g.B.TimeBook.admits c.args.book.now) c.args.set.now c.args.since c.args.latest 4294967295
 
 pub loop-to-preserved : goal.loop-to-preserved
 loop-to-preserved g c =

@@ -1,4 +1,4 @@
-use Rattle.std.proofs.Common.{◌≡◌, ◌<◌, ◌≤◌, List, [], length, get_or, take, Some, None, sym, refl, ◌∙◌, subst, arith}
+use Rattle.std.proofs.Common.{◌≡◌, ◌<◌, ◌≤◌, List, [], length, get_or, take, Some, None, sym, ◌∙◌, subst, arith}
 use Rattle.std.proofs.lemmas.List.{take_all}
 use Rattle.events.specs.declared.call.Call.TheVariants.{Judge}
 use Rattle.events.specs.declared.call.Entry.{Entry}
@@ -12,9 +12,6 @@ use Rattle.session.proofs.watch.watch.Goals as goal
 -- an entry past the end of the log
 abbrev no_entry : Entry
 no_entry = record { call = Judge (record { role = 0; direction = 0; partner = 0; label = 0; tick = 0 }); answer = None }
-
-pub loop-entry-init : goal.loop-entry-init
-loop-entry-init g c = record { asked = refl; sheet = refl; book = refl; whole = λ sh o d w. (tt, w) }
 
 pub loop-entry-preserved : goal.loop-entry-preserved
 loop-entry-preserved g c =

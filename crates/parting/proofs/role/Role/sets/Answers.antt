@@ -1,8 +1,7 @@
 use Rattle.std.proofs.Common.{◌≡◌, ◌+◌, ◌-◌, ◌<◌, length, get_or, sym, ap, ◌∙◌, arith}
-use Rattle.std.proofs.lemmas.Result.{err_from_is_err_and}
-use Rattle.parting.specs.Family.{sets, stopped, visited, explored, family_of}
+use Rattle.parting.specs.Family.{sets, visited, explored}
 use Rattle.parting.specs.Seen.{seen}
-use Rattle.parting.proofs.Exploring.{started, start_is, explored_more, explored_stop, explored_end}
+use Rattle.parting.proofs.Exploring.{started, start_is, explored_more}
 use Rattle.parting.proofs.Following.{turn_is}
 use Rattle.parting.proofs.role.Role.sets.Goals as goal
 
@@ -13,21 +12,6 @@ loop-set-init c =
     let begun = c.new-search.ensures in
     started r.number v r.labels c.enter.new.self.judged c.closure.result c.enter.result c.new-search.result.found.items c.enter.new.self.found.items
     (c.enter.ensures.judged ∙ begun.1) begun.0 (c.closure.ensures.value ∙ start_is v) c.enter.ensures.value
-
-pub returns-in_err-visit : goal.returns-in_err-visit
-returns-in_err-visit c =
-    let r = c.args.self.now in
-    let v = seen r.view in
-    let l = c.loop-set.search in
-    let e = c.in-Some.ensures in
-    let f = c.in_err-visit.field-0.0 in
-    let stops : visited r.number v r.labels l.judged (get_or l.found.items l.judged 0) l.found.items ≡ stopped f =
-    turn_is r.number v r.labels l.judged c.in-Some.set c.in-Some.states l.found.items c.next.new.self.found.items e.turn.0 e.turn.2 e.found ∙ sym c.in_err-visit.ensures.value in
-    let under : l.judged < length l.found.items = omega (arith, e.turn.0, e.turn.1) in
-    let all : stopped f ≡ family_of r.number v r.labels =
-    sym (explored_stop r.number v r.labels l.judged l.found.items f (omega (arith, l.few, l.reached)) under stops) ∙ c.loop-set.invariant in
-    let p = err_from_is_err_and c.from_residual.result c.from_residual.ensures.1 in
-    rw (p.1, p.2) (record { value = all; few = tt })
 
 pub loop-set-preserved : goal.loop-set-preserved
 loop-set-preserved c =
@@ -42,14 +26,3 @@ loop-set-preserved c =
     let next : c.visit.new.search.judged ≡ l.judged + 1 = c.in_ok-visit.ensures.judged ∙ e.turn.3 in
     ap (λ n. explored r.number v r.labels (33 - n) n more) next
     ∙ sym (explored_more r.number v r.labels l.judged l.found.items more (omega (arith, l.few, l.reached)) under goes) ∙ c.loop-set.invariant
-
-pub returns : goal.returns
-returns c =
-    let r = c.args.self.now in
-    let v = seen r.view in
-    let l = c.loop-set.search in
-    let e = c.in_default.ensures in
-    record {
-      value = ap sets e.found ∙ sym (explored_end r.number v r.labels l.judged l.found.items (omega (arith, l.few, l.reached)) e.turn) ∙ c.loop-set.invariant;
-      few = c.next.new.self.few;
-    }

@@ -21,9 +21,6 @@ returns-then-is_full c =
     let absent = ap (list_any (λ x. eqb x set)) (sym c.as_slice.ensures.value) ∙ sym c.contains.ensures.value ∙ c.if-contains.false in
     record { value = sym (entered_full found set (position_new set found absent) (omega (arith, eqb-true (length found) 32 (sym c.if-is_full.ensures.value)))); judged = refl }
 
-pub push-requires : goal.push-requires
-push-requires c = (omega arith, under_full (length c.args.self.now.found.items) c.args.self.now.few (sym c.if-is_full.ensures.value))
-
 pub returns : goal.returns
 returns c =
     let s = c.args.self.now in

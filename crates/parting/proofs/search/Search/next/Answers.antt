@@ -1,4 +1,4 @@
-use Rattle.std.proofs.Common.{◌≡◌, length, None, refl, sym, ap, ◌∙◌, arith, rules}
+use Rattle.std.proofs.Common.{◌≡◌, length, None, sym, ap, ◌∙◌, arith, rules}
 use Rattle.queue.specs.Held.{inside}
 use Rattle.parting.proofs.Exploring.{drop_head, drop-none}
 use Rattle.parting.proofs.search.Search.next.Goals as goal
@@ -14,9 +14,3 @@ invariant_of-self-2 c =
     let s = c.args.self.now in
     let h = drop_head s.judged c.in_ok-set.set s.found.items (inside c.pop.new.self) (sym s.waits ∙ c.in_ok-set.ensures.held) in
     record { few = s.few; reached = omega (arith, h.0); slots = ap length c.in_ok-set.ensures.slots ∙ s.slots; waits = h.2 }
-
-pub returns : goal.returns
-returns c =
-    let s = c.args.self.now in
-    let h = drop_head s.judged c.in_ok-set.set s.found.items (inside c.pop.new.self) (sym s.waits ∙ c.in_ok-set.ensures.held) in
-    record { found = refl; turn = (refl, h.0, h.1, refl) }
