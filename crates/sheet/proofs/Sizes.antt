@@ -1,6 +1,6 @@
 -- What the pairs have to say: each piece begins where the one before ends, the last ends with the sheet, and names and
 -- states have the lengths that are allowed.
-use Rattle.std.proofs.Common.{◌≡◌, ℕ, zero, suc, ◌+◌, ◌-◌, ◌≤◌, Bool, true, false, cond, eqb, ltb, List, [], ◌∷◌, map, take, drop, Decides, MatchBool, arith}
+use Rattle.std.proofs.Common.{◌≡◌, ℕ, zero, suc, ◌+◌, ◌-◌, ◌<◌, ◌≤◌, Bool, true, false, cond, eqb, ltb, List, [], ◌∷◌, map, length, get_or, take, drop, Decides, MatchBool, arith}
 use Rattle.std.specs.List.{AllByRecursion}
 use Rattle.std.proofs.lemmas.Bool.{lt-ltb, le-ltb}
 use Rattle.std.proofs.lemmas.Bool.Decides.{Decides-and, Decides-eqb, when_true, when_false}
@@ -19,6 +19,11 @@ PieceSize names i n = MatchBool (ltb i names) (Between 1 12 n) (BodySize n)
 abbrev pub Sized : ℕ → ℕ → List ℕ → Type 0
 Sized names i [] = Unit {0}
 Sized names i (n ∷ ns) = PieceSize names i n × Sized names (i + 1) ns
+
+pub sized_at : (names i : ℕ) (ns : List ℕ) → Sized names i ns → (j : ℕ) → j < length ns → PieceSize names (i + j) (get_or ns j 0)
+sized_at names i [] z j h = absurd (omega arith)
+sized_at names i (n ∷ ns) z zero h = let e : i + 0 ≡ i = omega arith in rw e z.0
+sized_at names i (n ∷ ns) z (suc j) h = let e : i + suc j ≡ i + 1 + j = omega arith in rw e (sized_at names (i + 1) ns z.1 j (omega arith))
 
 -- k names are left, and then states
 pub sizes_from_sized : (names i k : ℕ) (ns : List ℕ) → names - i ≡ k → Sized names i ns → AllByRecursion (Between 1 12) (take k ns) × AllByRecursion BodySize (drop k ns)
