@@ -2,7 +2,7 @@
 use Rattle.std.proofs.Common.{◌≡◌, ℕ, eqb, ◌≢◌, ◌⊎◌, [], ◌∷◌, ◌∙◌, inl, inr}
 use Rattle.std.proofs.lemmas.Bool.{cond-true, cond-false, eq-eqb, ne_eqb, cases_eq}
 use Rattle.protocol.specs.Places.{Place}
-use Rattle.protocol.specs.Actions.{Way, Timing, Action, sending, receiving, turn}
+use Rattle.protocol.specs.Actions.{Way, sends, Timing, Action, sending, receiving, turn}
 
 pub turn_sender : (m : ℕ) (p : Place) → m ≡ p.sender → turn m p ≡ sending p ∷ []
 unfolding turn
@@ -53,6 +53,15 @@ asked_label m p a t = go (side m p)
     go (as_sender _ u) = cc
     go (as_receiver _ _ u) = cc
     go (aside _ _ u) = cc
+
+-- one who sends is the sender, one who receives the receiver
+pub who_sends : (m : ℕ) (p : Place) (a : Action) → turn m p ≡ a ∷ [] → a.way ≡ sends → (m ≡ p.sender) × (a ≡ sending p)
+who_sends m p a t w = go (side m p)
+  where
+    go : Side m p → (m ≡ p.sender) × (a ≡ sending p)
+    go (as_sender q u) = (q, cc)
+    go (as_receiver _ _ u) = absurd cc
+    go (aside _ _ u) = absurd cc
 
 abbrev make_action : Way → ℕ → ℕ → Timing → Action
 make_action w k l t = record { way = w; partner = k; label = l; timing = t }
