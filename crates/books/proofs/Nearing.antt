@@ -1,11 +1,17 @@
 -- Margins over margins, and the margin of 0.
 use Rattle.std.proofs.Common.{◌≡◌, ℕ, ◌+◌, ◌-◌, ◌^◌, ◌<◌, ◌≤◌, min, sym, subst, ⊎_elim, arith}
 use Rattle.std.proofs.lemmas.Bool.{cases_lt}
-use Rattle.books.specs.MarginLaws.{Piled}
+use Rattle.books.specs.MarginLaws.{NoMargin, Piled}
 use Rattle.books.specs.Margins.{Near}
 use Rattle.book_rows.specs.Sets.{Same}
 
 module _ (P : ℕ → Type 0) (ranged : (u : ℕ) → P u → u < 2 ^ 32) where
+  pub no_margin : NoMargin P
+  no_margin v = (
+    (λ n. let e : n.1.0 ≡ v = omega (arith, n.1.2, n.1.3) in subst P e n.1.1),
+    (λ p. (ranged v p, (v, p, omega arith, omega arith))),
+  )
+
   -- a value w near v that the margin d reaches from u
   between : (d e v w u : ℕ) → P u → v < 2 ^ 32 → w < 2 ^ 32 → (u ≤ w + d) × (w ≤ u + d) → (w ≤ v + e) × (v ≤ w + e) → Near (Near P d) e v
   between d e v w u p fits within inner outer = (fits, (w, (within, (u, p, inner.0, inner.1)), outer.0, outer.1))

@@ -3,7 +3,7 @@ use Rattle.std.proofs.Common.{◌≡◌, ℕ, zero, suc, ◌+◌, ◌-◌, ◌*�
 use native.Mathlib.Numerals.{unary_clauses}
 use Rattle.std.proofs.Math.Nat.{le-div_iff_mul-le}
 use Rattle.std.proofs.Math.Seq.{drop-append_seam, take-append_seam, get_or-append_seam}
-use Rattle.std.proofs.lemmas.List.{length-drop, length-append, drop-drop, get_or_append_left}
+use Rattle.std.proofs.lemmas.List.{length-take-le, length-drop, length-append, drop-drop, get_or_append_left}
 use Rattle.std.proofs.lemmas.Nat.{mul-le, div-add-mod'}
 use Rattle.std.proofs.lemmas.Option.{MatchOption-at_some, MatchOption-at_none, slice_get_cases}
 use Rattle.std.proofs.lemmas.Bool.{cond-true, cond-false, and_from, and_parts, eq-eqb, eqb-true, le-leb, leb-true, cond_both, both_ways}
@@ -20,6 +20,9 @@ pub row_ends : (size given row : ℕ) → row < given / size → row * size + si
 row_ends size given row h =
     let m : (row + 1) * size ≤ given / size * size = mul-le (row + 1) size (given / size) size (omega arith) (omega arith) in
     omega (arith, m, add-mul row 1 size, div-add-mod' given size)
+
+pub row_long : (size : ℕ) (bytes : List ℕ) (row : ℕ) → row < length bytes / size → length (row_at size bytes row) ≡ size
+row_long size bytes row h = length-take-le size (drop (row * size) bytes) (rw length-drop (omega (arith, row_ends size (length bytes) row h)))
 
 module _ (size : ℕ) (rule : List ℕ → Bool) (bytes : List ℕ) (n i : ℕ) where
   bad_more : i < n → rule (row_at size bytes i) ≡ true → bad_from size rule bytes i (n - i) ≡ bad_from size rule bytes (i + 1) (n - (i + 1))
