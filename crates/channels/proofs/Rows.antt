@@ -1,15 +1,41 @@
 -- Laws of channels: how a queue resumes in one, and what a change of one changes of all.
-use Rattle.std.proofs.Common.{◌≡◌, ℕ, ◌+◌, ◌-◌, ◌*◌, ◌<◌, ◌≤◌, Bool, true, cond, ◌&&◌, eqb, ltb, leb, ◌≢◌, List, [], length, map, get_or, drop, set, replicate, Option, None, Some, sym, subst, ap, ◌∙◌, ⊎_elim, arith, get_or-set_other, get_or-set_same}
+use Rattle.std.proofs.Common.{◌≡◌, ℕ, ◌+◌, ◌-◌, ◌*◌, ◌<◌, ◌≤◌, Bool, true, false, cond, ◌&&◌, eqb, ltb, leb, ◌≢◌, List, [], length, map, get_or, drop, set, replicate, Option, None, Some, sym, refl, subst, ap, ◌∙◌, ⊎_elim, arith, get_or-set_other, get_or-set_same}
 use Rattle.std.proofs.lemmas.List.{get_or-map, get_or_default, set-get_or, map-set, get_or-replicate, get_or_past, length-map, length-replicate}
-use Rattle.std.proofs.lemmas.Bool.{cases_Bool, cases_eq, cases_lt, and_from, and_left, and_right, and_parts, lt-ltb, le-leb, ltb-true, ltb-false, eqb-true, eq-eqb, ne_eqb, cond-true, cond-false}
+use Rattle.std.proofs.Math.ListN.{get_or-map as get_or-map_any}
+use Rattle.std.proofs.lemmas.Bool.{cases_Bool, cases_eq, cases_lt, and_from, and_left, and_right, and_parts, lt-ltb, le-leb, le-ltb, ltb-true, ltb-false, eqb-true, eq-eqb, ne_eqb, cond-true, cond-false}
 use Rattle.std.proofs.Math.Bridge.{le_prop}
 use Rattle.std.specs.Option.{is_some, IfSome}
 use Rattle.events.specs.declared.message.Message.{Message}
 use Rattle.queue.specs.Ring.{held, within}
 use Rattle.queue.proofs.Rings.{held_none, held_oldest}
+use Rattle.channels.specs.declared.place.Place.{Place}
 use Rattle.channels.specs.declared.channel.Channel.{Channel}
 use Rattle.channels.specs.declared.channels.Channels.{Channels}
 use Rattle.channels.specs.Waiting.{waiting, channel, first}
+
+-- whether a queue can stand at this place in a row of slots
+abbrev pub stands_in : List Message → Place → Bool
+stands_in row p = within (length row) p.first p.count
+
+-- what stands in a row of slots, the oldest first; nothing where no queue can stand so in it
+abbrev pub ring : List Message → Place → List Message
+ring row p = cond (stands_in row p) (held row p.first p.count) []
+
+-- what any row holds is what the queue resumed in it holds, whatever the place
+pub ring_resumed : (row : List Message) (p : Place) → ring row p ≡ held row (cond (stands_in row p) p.first 0) (cond (stands_in row p) p.count 0)
+ring_resumed row p = either (stands_in row p)
+  where
+    either : (b : Bool) → cond b (held row p.first p.count) [] ≡ held row (cond b p.first 0) (cond b p.count 0)
+    either true = refl
+    either false = sym (held_none row 0 0 refl)
+
+-- what waits in a channel is what stands in its slots
+pub waiting_ring : (c : Channel) → waiting c ≡ ring c.slots c.place
+waiting_ring c =
+    ⊎_elim
+    (λ within. sym (cond-true _ _ [] (and_from _ _ (lt-ltb c.place.first (length c.slots) within) (le-leb c.place.count (length c.slots) c.fits))))
+    (λ out. held_none c.slots c.place.first c.place.count (omega (arith, c.begins, c.fits, out)) ∙ sym (cond-false _ _ [] (and_left _ _ (le-ltb c.place.first (length c.slots) out))))
+    (cases_lt c.place.first (length c.slots))
 
 -- the queue that is resumed in a channel holds what waits there
 module _ (c : Channel) (eight : length c.slots ≡ 8) where
@@ -56,6 +82,22 @@ module _ (c : Channels) (a b : ℕ) where
       (λ t. absurd (none (ltb-true a 6 (and_parts (ltb a 6) (ltb b 6) t).0, ltb-true b 6 (and_parts (ltb a 6) (ltb b 6) t).1)))
       (λ t. cond-false (ltb a 6 && ltb b 6) _ [] t)
       (cases_Bool (ltb a 6 && ltb b 6))
+
+-- a channel with no slots
+abbrev pub blank : Channel
+blank = record { slots = []; place = record { first = 0; count = 0 }; begins = omega arith; fits = omega arith }
+
+-- what waits from one role to another is what the queue resumed in the channel with number i holds
+module _ (c : Channels) (from to i : ℕ) (hf : from < 6) (ht : to < 6) (at : i ≡ 6 * from + to) where
+  abbrev line : Channel
+  line = get_or c.channels i blank
+
+  pub channel_resumed : (s : List Message) (f n : ℕ) → s ≡ line.slots → f ≡ cond (stands_in line.slots line.place) line.place.first 0 → n ≡ cond (stands_in line.slots line.place) line.place.count 0 → channel c from to ≡ held s f n
+  channel_resumed s f n es ef en =
+      channel_row c from to hf ht ∙ ap (λ k. get_or (map waiting c.channels) k []) (sym at)
+      ∙ ap (get_or (map waiting c.channels) i) (sym (held_none [] 0 0 refl)) ∙ get_or-map_any waiting c.channels i blank
+      ∙ waiting_ring line ∙ ring_resumed line.slots line.place
+      ∙ sym (ap (λ r. held r f n) es ∙ ap (λ k. held line.slots k n) ef ∙ ap (held line.slots _) en)
 
 -- the channel with number i
 module _ (c : Channels) (from to i : ℕ) (d : Channel) (hf : from < 6) (ht : to < 6) (at : i ≡ 6 * from + to) (here : i < length c.channels) where
