@@ -3,7 +3,7 @@ use Rattle.std.proofs.Common.{◌≡◌, ℕ, ◌-◌, ◌<◌, ◌≤◌, Bool,
 use Rattle.std.specs.List.{AllByRecursion}
 use Rattle.sheet.specs.Model.{Sheet}
 use Rattle.sheet.specs.Valid.{Valid}
-use Rattle.protocol.specs.Actions.{Timing, Action}
+use Rattle.protocol.specs.Actions.{Way, sends, receives, Timing, Action}
 use Rattle.protocol.specs.Paths.{share}
 use Rattle.protocol.proofs.Known.{action_known}
 use Rattle.events.specs.declared.event.Event.{Event}
@@ -18,6 +18,11 @@ use Rattle.runs.proofs.Agree.{direction_small}
 -- the event by which role m does that action at that tick
 abbrev pub as_event : ℕ → Action → ℕ → Event
 as_event m a t = record { role = m; direction = direction_of a.way; partner = a.partner; label = a.label; tick = t }
+
+-- room does not hang on the tick
+pub room_any_tick : (depth : ℕ) (σ : Monitor) (m : ℕ) (a : Action) (t u : ℕ) (w : Way) → Room depth σ (as_event m a t) w → Room depth σ (as_event m a u) w
+room_any_tick depth σ m a t u sends r = r
+room_any_tick depth σ m a t u receives r = r
 
 -- an action of the role's set that could be done at tick t
 pub record CouldDo (sh : Sheet) (book : Book) (depth : ℕ) (σ : Monitor) (m t : ℕ) (a : Action) : Type 0 where
@@ -91,3 +96,7 @@ since_latest sh book o d es σ k m l =
     let late = rising_late o es k.run.ticks in
     let x : last_reset o (own m es) (timings (share m k.run.path)) ≤ last_tick o es = reset_late o (last_tick o es) (own m es) (timings (share m k.run.path)) late.0 (all_own (λ e. e.tick ≤ last_tick o es) m es late.1) in
     subst₂ (λ (a b : ℕ). a ≤ b) (sym (k.since m l)) (sym k.latest) x
+
+-- and the opening tick is no later than the latest
+pub opening_latest : (sh : Sheet) (book : Book) (o d : ℕ) (es : List Event) (σ : Monitor) → Stands sh book o d es σ → o ≤ σ.latest
+opening_latest sh book o d es σ k = rw k.latest (rising_late o es k.run.ticks).0

@@ -100,7 +100,7 @@ short_path = heat_place ∷ []
 short_leads : PathFrom oven 0 short_path
 short_leads = (record { branches = branch 0 1 255 0 3 ∷ []; stands = refl; among = Memᴰ.head refl }, refl, tt)
 
--- what list_all role follows is the third and the fourth point
+-- what every role follows is the third and the fourth point
 on_some_path : (sh : Sheet) (es : List Event) → AllByRecursion (λ e. e.role < length sh.roles) es → (path : List Place) → PathFrom sh 0 path → (o : ℕ) → ((m : ℕ) → Follows windows o (own m es) (share m path)) → TimelyOnSomePath sh windows o es
 on_some_path sh es known path leads o f = record {
   third = record { known = known; path = path; leads = leads; shares = λ m. beginning windows o (own m es) (share m path) (f m) };
