@@ -97,6 +97,6 @@ since_latest sh book o d es σ k m l =
     let x : last_reset o (own m es) (timings (share m k.run.path)) ≤ last_tick o es = reset_late o (last_tick o es) (own m es) (timings (share m k.run.path)) late.0 (all_own (λ e. e.tick ≤ last_tick o es) m es late.1) in
     subst₂ (λ (a b : ℕ). a ≤ b) (sym (k.since m l)) (sym k.latest) x
 
--- and the opening tick is no later than the latest
+-- the opening tick is no later than the latest
 pub opening_latest : (sh : Sheet) (book : Book) (o d : ℕ) (es : List Event) (σ : Monitor) → Stands sh book o d es σ → o ≤ σ.latest
 opening_latest sh book o d es σ k = rw k.latest (rising_late o es k.run.ticks).0
