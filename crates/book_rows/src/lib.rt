@@ -3,5 +3,6 @@
 
 pub mod kind;
 pub mod number;
+pub mod sizes;
 pub mod slot;
 pub mod window;

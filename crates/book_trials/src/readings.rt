@@ -2,9 +2,6 @@
 
 use crate::compare::Tally;
 use crate::tables::bytes_of;
-use book_rows::kind::RowKind;
-use book_rows::slot::Slot;
-use book_rows::window::Window;
 use books::fault::BookFault;
 use books::slots::Slots;
 use books::windows::Windows;
@@ -19,9 +16,9 @@ const BAD_WINDOW: [u32; 2] = [1, 0];
 /// A slot whose first + width passes 32 bits; in 32 bits the sum would be 0.
 const BAD_SLOT: [u32; 3] = [4_294_967_295, 4_294_967_295, 1];
 
-/// The fault of so many zeros as a book of such rows, where a row of zeros is legal or not.
-fn fault_of_zeros<R: RowKind>(given: usize, legal: bool) -> Option<BookFault> {
-    if given % R::SIZE != 0 || given / R::SIZE > 64 {
+/// The fault of so many zeros as a book, where they are its rows or not, and a row of zeros is legal or not.
+fn fault_of_zeros(given: usize, rows: bool, legal: bool) -> Option<BookFault> {
+    if !rows {
         Some(BookFault::Rows { given })
     } else if given > 0 && !legal {
         Some(BookFault::Row { row: 0 })
@@ -36,8 +33,11 @@ pub(crate) fn lengths() -> Tally {
     let zeros = [0; MOST];
     for given in 0..MOST + 1 {
         let bytes = &zeros[0..given];
-        tally.note(Windows::read(bytes).err() == fault_of_zeros::<Window>(given, true));
-        tally.note(Slots::read(bytes).err() == fault_of_zeros::<Slot>(given, false));
+        // The numbers stand here once more, and are not the library's: a row of another size there must show.
+        let windows = given % 8 == 0 && given <= 512;
+        let slots = given % 12 == 0 && given <= 768;
+        tally.note(Windows::read(bytes).err() == fault_of_zeros(given, windows, true));
+        tally.note(Slots::read(bytes).err() == fault_of_zeros(given, slots, false));
     }
     tally
 }
