@@ -43,7 +43,8 @@ fn keep(bytes: &[u8]) -> ReadSheet
     requires { fault bytes.now ≡ None }
     ensures { bytes_of result ≡ bytes.now }
 {
-    ReadSheet {
-        bytes: ArrayVec::try_from(bytes).unwrap(),
-    }
+    // Not by `try_from`: the bytes would be moved into its result and out again.
+    let mut own = ArrayVec::new();
+    own.try_extend_from_slice(bytes).unwrap();
+    ReadSheet { bytes: own }
 }
