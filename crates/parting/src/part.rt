@@ -1,6 +1,6 @@
 //! Parting a sheet.
 
-ghost use Rattle.std.specs.Prelude.{◌≡◌, MatchResult};
+ghost use Rattle.std.specs.Prelude.{◌≡◌, [], MatchResult};
 ghost use Rattle.std.specs.Result.{result_err};
 ghost use Rattle.reading.specs.Reads.{sheet_of};
 ghost use Rattle.protocol.specs.Accepted.{Accepted as CanBeParted};
@@ -25,9 +25,11 @@ pub fn part(sheet: ReadSheet) -> Result<Accepted, Refused>
     ensures judged { fault_of result ≡ part_fault (sheet_of sheet) }
     ensures whole { MatchResult result (λ a. CanBeParted (sheet_of sheet) × PartsOf (sheet_of sheet) a) (λ e. (CanBeParted (sheet_of sheet) → ⊥) × (e.sheet ≡ sheet)) }
 {
+    // The parts stand here and are put by a function: a result that has them would move their 150 KB twice more.
+    let mut parts = ArrayVec::new();
     // A `match`: both arms use the sheet up.
-    match parts_of(&sheet) {
-        Ok(parts) => Ok(Accepted {
+    match put_parts(&sheet, &mut parts) {
+        Ok(()) => Ok(Accepted {
             counts: sheet.counts(),
             parts,
         }),
@@ -35,18 +37,18 @@ pub fn part(sheet: ReadSheet) -> Result<Accepted, Refused>
     }
 }
 
-// Each role's part, or the fault that comes first.
-fn parts_of(sheet: &ReadSheet) -> Result<ArrayVec<Part, 6>, PartFault>
+// Puts each role's part where none is yet, or answers the fault that comes first.
+fn put_parts(sheet: &ReadSheet, parts: &mut ArrayVec<Part, 6>) -> Result<(), PartFault>
+    requires { parts.old.items ≡ [] }
     ensures fault { result_err result ≡ part_fault (sheet_of sheet.now) }
-    ensures parts { MatchResult result (λ parts. EachParted (sheet_of sheet.now) parts.items) (λ _. CanBeParted (sheet_of sheet.now) → ⊥) }
+    ensures parts { MatchResult result (λ _. EachParted (sheet_of sheet.now) parts.new.items) (λ _. CanBeParted (sheet_of sheet.now) → ⊥) }
 {
     let counts = sheet.counts();
     let transitions = decode(sheet);
-    let mut parts = ArrayVec::new();
     // A role is its number: there is no list to go over.
     for role in 0..counts.roles {
         let part = Role::of(&transitions, role, counts.labels).part()?;
         parts.push(part);
     }
-    Ok(parts)
+    Ok(())
 }

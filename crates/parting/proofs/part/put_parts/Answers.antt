@@ -8,11 +8,11 @@ use Rattle.parting.specs.Parts.{Parted, family}
 use Rattle.parting.specs.View.{places}
 use Rattle.parting.proofs.Decoding.{sheet_valid}
 use Rattle.parting.proofs.Roles.{Tabled, faults_more, faults_stop, faults_start, tabled_more, stopped_refused}
-use Rattle.parting.proofs.part.parts_of.Goals as goal
+use Rattle.parting.proofs.part.put_parts.Goals as goal
 
 pub loop-role-init : goal.loop-role-init
 loop-role-init c = record {
-  counted = ap length c.new-parts.ensures;
+  counted = ap length c.requires;
   unfaulted = faults_start (sheet_of c.args.sheet.now);
   tabled = λ m h. absurd (omega arith);
 }

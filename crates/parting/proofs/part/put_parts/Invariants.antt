@@ -3,7 +3,7 @@ use Rattle.reading.specs.Reads.{sheet_of}
 use Rattle.parting.specs.declared.local.Part.{Part}
 use Rattle.parting.specs.Parts.{fault_from, part_fault}
 use Rattle.parting.proofs.Roles.{Tabled}
-use Rattle.parting.proofs.part.parts_of.Given as goal
+use Rattle.parting.proofs.part.put_parts.Given as goal
 
 abbrev pub invariant-loop-role : goal.invariant-loop-role
 invariant-loop-role l = record {
