@@ -64,7 +64,7 @@ impl From<Refused> for ConsoleFault {
     ghost from_gives = { λ refused r. r ≡ Parting refused.fault };
 
     fn from(refused: Refused) -> ConsoleFault {
-        ConsoleFault::Parting(refused.fault)
+        ConsoleFault::from(refused.fault)
     }
 }
 
@@ -72,7 +72,7 @@ impl<B: Drop> From<Unopened<B>> for ConsoleFault {
     ghost from_gives = { λ unopened r. r ≡ Session unopened.fault };
 
     fn from(unopened: Unopened<B>) -> ConsoleFault {
-        ConsoleFault::Session(unopened.fault)
+        ConsoleFault::from(unopened.fault)
     }
 }
 

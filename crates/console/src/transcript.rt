@@ -11,7 +11,7 @@ use sheet::counts::Counts;
 use std::alloc::AllocError;
 use stops::stop::Stop;
 use text::growing::Text;
-use text::stop_line::put_named;
+use text::stop_line::{put_named, word_for};
 
 /// Puts the transcript of a session: the sheet's counts, a line for each answer, and what closing answered.
 pub(crate) fn put_transcript(
@@ -66,8 +66,10 @@ fn put_answer(
 fn put_stopped(text: &mut Text, number: usize, fault: SessionFault) -> Result<(), AllocError>
     ensures { Adds text.old text.new result (answer_line number (Some (Err fault))) }
 {
-    write!(text, "{number} STOP ")?;
-    put_named(text, Stop::from(fault).number)?;
+    // Not by `put_named`: each piece is formatted apart, and one line of it stands for each event that is stopped.
+    let stop = Stop::from(fault).number;
+    write!(text, "{number} STOP {stop} ")?;
+    text.put(word_for(stop))?;
     writeln!(text)
 }
 

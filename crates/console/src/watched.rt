@@ -33,8 +33,11 @@ fn accept<B: ReadBook + Drop>(sheet: &[u8], book: &[u8]) -> Result<(Accepted, B)
 {
     let sheet = read(sheet)?;
     let book = B::read_book(book)?;
-    let accepted = part(sheet)?;
-    Ok((accepted, book))
+    // A `match`, and below too: by `?` the accepted sheet would be moved once more.
+    match part(sheet) {
+        Ok(accepted) => Ok((accepted, book)),
+        Err(refused) => Err(ConsoleFault::from(refused)),
+    }
 }
 
 /// What a script's events are told with besides their answers.
@@ -55,9 +58,11 @@ pub(crate) fn watch_script<B: ReadBook + Drop>(
 {
     let (accepted, book) = accept::<B>(script.sheet, script.book)?;
     let counts = accepted.counts();
-    let closed = watch(accepted, book, script.tick, DEPTH, log)?;
-    Ok(Seen {
-        counts,
-        closing: closed.closing,
-    })
+    match watch(accepted, book, script.tick, DEPTH, log) {
+        Ok(closed) => Ok(Seen {
+            counts,
+            closing: closed.closing,
+        }),
+        Err(unopened) => Err(ConsoleFault::from(unopened)),
+    }
 }

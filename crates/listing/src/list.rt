@@ -45,7 +45,11 @@ fn parted(input: &[u8]) -> Result<Accepted, ListFault>
     ensures judged { fault_of result ≡ parted_fault input.now }
     ensures value { IfOk result (λ a. PartsOf (model input.now) a) }
 {
-    Ok(part(examine(input)?)?)
+    // A `match`: by `?` the accepted sheet would be moved once more.
+    match part(examine(input)?) {
+        Ok(accepted) => Ok(accepted),
+        Err(refused) => Err(ListFault::from(refused)),
+    }
 }
 
 // What follows the page: the parts, or the stop.

@@ -29,8 +29,11 @@ pub(crate) fn play<B: TimeBook + Drop>(
     ensures { MatchResult result (λ n. Kept n output.old output.new) (λ _. output.new ≡ output.old) }
 {
     let counts = accepted.counts();
-    let session = Session::open(accepted, book, script.tick, script.depth)?;
-    Ok(answer(session, counts, script, output))
+    // A `match`: by `?` the session would be moved once more.
+    match Session::open(accepted, book, script.tick, script.depth) {
+        Ok(session) => Ok(answer(session, counts, script, output)),
+        Err(unopened) => Err(Stop::from(unopened)),
+    }
 }
 
 // Writes nothing where there is no room for all answers.

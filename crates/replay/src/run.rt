@@ -37,14 +37,17 @@ fn run_by<B: TimeBook + Drop>(
 ) -> Result<usize, Stop>
     ensures { MatchResult result (λ n. Kept n output.old output.new) (λ _. output.new ≡ output.old) }
 {
-    let accepted = part(sheet)?;
-    // Each arm calls the generic function at another type of book.
-    match script.margins {
-        Margins::None => play(accepted, book, script, output),
-        Margins::One(by) => play(accepted, Margin::over(book, by), script, output),
-        Margins::Two(inner, outer) => {
-            let book = Margin::over(Margin::over(book, inner), outer);
-            play(accepted, book, script, output)
-        }
+    // A `match`: by `?` the accepted sheet would be moved once more.
+    match part(sheet) {
+        // Each arm calls the generic function at another type of book.
+        Ok(accepted) => match script.margins {
+            Margins::None => play(accepted, book, script, output),
+            Margins::One(by) => play(accepted, Margin::over(book, by), script, output),
+            Margins::Two(inner, outer) => {
+                let book = Margin::over(Margin::over(book, inner), outer);
+                play(accepted, book, script, output)
+            }
+        },
+        Err(refused) => Err(Stop::from(refused)),
     }
 }

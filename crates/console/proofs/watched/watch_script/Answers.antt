@@ -6,12 +6,12 @@ use Rattle.console.proofs.Accepting.{opening_last}
 use Rattle.console.proofs.ByBook.{prescribed_by}
 use Rattle.console.proofs.watched.watch_script.Goals as goal
 
-pub returns : goal.returns
-returns g c =
+pub returns-in-Ok : goal.returns-in-Ok
+returns-in-Ok g c =
     let sheet = c.args.script.sheet.now in
     let book = c.args.script.book.now in
     let parts = c.in_ok-accepted.ensures.whole in
-    let watched = c.in_ok-closed.ensures in
+    let watched = c.in-Ok.ensures in
     let told = watched.whole.2 (model sheet) parts.1 in
     record {
       judged = opening_last (accept_fault g.B.ReadBook.refusal sheet book) None _ _ _ _ c.in_ok-accepted.ensures.judged watched.judged (ap (λ (k : Counts). k.rows) parts.1.parts.counts) parts.2;
