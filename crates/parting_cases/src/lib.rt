@@ -4,28 +4,37 @@
 
 pub mod outcomes;
 
-use arrayvec::ArrayVec;
 use parting::part::part;
 use reading::read::read;
 use stops::stop::Stop;
 
 /// A sheet's bytes, as far as they are written; bytes past the 1024th are left out.
-#[derive(Drop)]
+// An array with its length beside it: `Bytes` is `Copy` for its users, and an `ArrayVec` is not.
+#[derive(Clone, Copy)]
 pub struct Bytes {
-    written: ArrayVec<u8, 1024>,
+    bytes: [u8; 1024],
+    len: usize,
 }
 
 impl Bytes {
     fn new() -> Bytes {
         Bytes {
-            written: ArrayVec::new(),
+            bytes: [0; 1024],
+            len: 0,
         }
     }
 
     fn push(&mut self, bytes: &[u8]) {
         for byte in bytes {
-            let _ = self.written.try_push(*byte);
+            if let Some(place) = self.bytes.get_mut(self.len) {
+                *place = *byte;
+                self.len += 1;
+            }
         }
+    }
+
+    fn as_slice(&self) -> &[u8] {
+        &self.bytes[..self.len.min(self.bytes.len())]
     }
 
     // A number of 16 bits, the high byte first.
@@ -92,7 +101,7 @@ pub fn chain(exchanges: u8) -> Bytes {
 
 /// The stop with which reading or parting refuses a sheet, if one does.
 pub fn answer(sheet: &Bytes) -> Result<(), Stop> {
-    parted(sheet.written.as_slice())
+    parted(sheet.as_slice())
 }
 
 pub(crate) fn parted(bytes: &[u8]) -> Result<(), Stop> {
@@ -103,7 +112,7 @@ pub(crate) fn parted(bytes: &[u8]) -> Result<(), Stop> {
 /// How many sets a role has, and the masks of its first four; none where it has no part.
 // As in `trials`, which rests on sessions: these cases rest on parting alone.
 pub fn first_sets(sheet: &Bytes, role: usize) -> Option<(usize, [u64; 4])> {
-    let sheet = read(sheet.written.as_slice()).ok()?;
+    let sheet = read(sheet.as_slice()).ok()?;
     let accepted = part(sheet).ok()?;
     let part = accepted.part(role)?;
     // The count that goes with them is of all sets, and not of these masks.

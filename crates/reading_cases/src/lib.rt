@@ -19,6 +19,14 @@ const OVEN: [u8; 77] = [
     0, // past the end
 ];
 
+/// How many of the bytes are given, which of them are changed first, and what reading answers.
+#[derive(Clone, Copy)]
+pub struct Damage {
+    given: usize,
+    changes: &'static [(usize, u8)],
+    answer: Result<(), Stop>,
+}
+
 // What reading answers: nothing, or the stop.
 fn answer(bytes: &[u8]) -> Result<(), Stop> {
     read(bytes)?;
@@ -43,14 +51,6 @@ mod tests {
     use sheet::branch::Branch;
     use std::process::Abort;
     use std::test::Fail;
-
-    /// How many of the bytes are given, which of them are changed first, and what reading answers.
-    #[derive(Clone, Copy)]
-    struct Damage {
-        given: usize,
-        changes: &'static [(usize, u8)],
-        answer: Result<(), Stop>,
-    }
 
     fn good(changes: &'static [(usize, u8)]) -> Damage {
         Damage {

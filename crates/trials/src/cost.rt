@@ -4,6 +4,7 @@ use crate::calls::{ask, opened};
 use crate::counted::{Asked, Counted};
 use crate::put::Put;
 use books::windows::Windows;
+use std::sync::atomic::Ordering;
 use stops::stop::Stop;
 
 /// How often a session's book is asked `holds`, and `next`, for all that is put to the session.
@@ -18,5 +19,8 @@ pub fn questions(bytes: &[u8], book: Windows, puts: &[Put]) -> Result<(u32, u32)
     for put in puts {
         let _ = ask(&mut session, *put);
     }
-    Ok((asked.holds.get(), asked.nexts.get()))
+    Ok((
+        asked.holds.load(Ordering::SeqCst),
+        asked.nexts.load(Ordering::SeqCst),
+    ))
 }

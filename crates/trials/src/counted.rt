@@ -3,19 +3,31 @@
 ghost use Rattle.trials.specs.Counts.{counted_bounded};
 
 use books::time_book::TimeBook;
-use std::cell::Cell;
+use std::sync::atomic::{AtomicU32, Ordering};
 
 /// How often a book was asked whether a value holds, and how often for the next.
-#[derive(Default, Drop)]
+// Atomic numbers in place of cells, so that a `Counted`, which lends them, is `Send`.
+#[derive(Drop)]
 pub struct Asked {
-    pub holds: Cell<u32>,
-    pub nexts: Cell<u32>,
+    pub holds: AtomicU32,
+    pub nexts: AtomicU32,
+}
+
+impl Default for Asked {
+    fn default() -> Asked {
+        Asked {
+            holds: AtomicU32::new(0),
+            nexts: AtomicU32::new(0),
+        }
+    }
 }
 
 impl Asked {
     /// How often in all.
     pub fn total(&self) -> u32 {
-        self.holds.get().wrapping_add(self.nexts.get())
+        self.holds
+            .load(Ordering::SeqCst)
+            .wrapping_add(self.nexts.load(Ordering::SeqCst))
     }
 }
 
@@ -38,12 +50,12 @@ impl<'a, B: TimeBook> TimeBook for Counted<'a, B> {
     }
 
     fn holds(&self, row: u8, value: u32) -> bool {
-        self.asked.holds.set(self.asked.holds.get().wrapping_add(1));
+        self.asked.holds.fetch_add(1, Ordering::SeqCst);
         self.below.holds(row, value)
     }
 
     fn next(&self, row: u8, value: u32) -> Option<u32> {
-        self.asked.nexts.set(self.asked.nexts.get().wrapping_add(1));
+        self.asked.nexts.fetch_add(1, Ordering::SeqCst);
         self.below.next(row, value)
     }
 }
