@@ -13,11 +13,11 @@ use Rattle.session.proofs.watch.watch.Goals as goal
 abbrev no_entry : Entry
 no_entry = record { call = Judge (record { role = 0; direction = 0; partner = 0; label = 0; tick = 0 }); answer = None }
 
-pub loop-entry-preserved : goal.loop-entry-preserved
-loop-entry-preserved g c =
-    let l = c.loop-entry in
+pub loop-i-preserved : goal.loop-i-preserved
+loop-i-preserved g c =
+    let l = c.loop-i in
     let log = l.log in
-    let i = l.entry-index in
+    let i = l.i in
     let answer = Some c.ask.result in
     let call = (get_or log i no_entry).call in
     let front = passed [] (take i log) in
@@ -38,14 +38,14 @@ loop-entry-preserved g c =
 
 pub returns-clause-whole : goal.returns-clause-whole
 returns-clause-whole g c =
-    let l = c.loop-entry in
+    let l = c.loop-i in
     let s = c.in_ok-session.session in
     let opened = c.in_ok-session.ensures.whole in
     let tick = c.args.tick in
     let depth = c.args.depth in
-    let front = take l.entry-index l.log in
-    let reached : length l.log ≤ l.entry-index = omega arith in
-    let all : front ≡ l.log = take_all l.entry-index l.log reached in (
+    let front = take l.i l.log in
+    let reached : length l.log ≤ l.i = omega arith in
+    let all : front ≡ l.log = take_all l.i l.log reached in (
       c.close.ensures.back.0 ∙ l.invariant.sheet ∙ opened.0,
       c.close.ensures.back.1 ∙ l.invariant.book ∙ opened.1,
       λ sh is.
